@@ -13,7 +13,7 @@ use Rattle.rp_answer.specs.declared.answer.Verdict.{Verdict}
 use Rattle.rp_answer.specs.declared.answer.Verdict.TheVariants.{Yes, No, Ok, DC, EC, PO, EQ, TPP, NTPP, TPPi, NTPPi, Pieces, Piece, Parts, Part, Parcel, Nobody, Neighbours, Clear, Parcels, Lots, Lot, Sections, Slice, Access, NoAccess, Level, Refused}
 use Rattle.rp_answer.specs.declared.answer.Answer.{Answer}
 
--- the refusal of the model
+-- the refusal of the model for a refusal of the code
 abbrev pub refusal_of : Refusal → ModelRefusal
 refusal_of (Bad why) = bad (fault_of why)
 refusal_of (Unknown x) = unknown x
@@ -32,7 +32,7 @@ refusal_of (ChildrenOverlap m n) = children_overlap m n
 refusal_of Gap = gap
 refusal_of (EmptyRegion k) = empty_region k
 
--- the verdict of the model
+-- the verdict of the model for a verdict of the code
 abbrev pub verdict_of : Verdict → ModelVerdict
 verdict_of Yes = says_yes
 verdict_of No = says_no
@@ -63,6 +63,6 @@ verdict_of NoAccess = no_access
 verdict_of (Level k x) = level k x
 verdict_of (Refused r) = refused (refusal_of r)
 
--- the answer of the model
+-- the answer of the model for an answer of the code
 abbrev pub answer_of : Answer → ModelAnswer
 answer_of a = record { number = a.n; echo = a.echo.items; proofs = map line_of a.proofs.items; verdicts = map verdict_of a.verdicts.items }

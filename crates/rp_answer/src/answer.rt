@@ -1,4 +1,4 @@
-//! What is told of a line.
+//! The answer to a line.
 
 use rp_cert::{Proofs, Slice};
 use rp_command::Why;
@@ -8,28 +8,28 @@ use rp_space::Halves;
 use std::alloc::{AllocError, Global};
 use std::boxed::Box;
 
-/// Why a line is refused.
+/// The reason why a line is refused.
 #[derive(Clone, Copy)]
 pub enum Refusal {
     /// The line is no command.
     Bad(Why),
-    /// The first name or lot, in reading order, that isn't there.
+    /// The first name or lot, in reading order, that is not there.
     Unknown(Name),
     /// A new name or id that is there already.
     Known(Name),
-    /// An id of the line that stood before in it.
+    /// An id of the line that occurred before in it.
     Repeated(Name),
     /// A lot that is in another layer than the first lot of the line.
     Layers(Name),
-    /// Two new ids are one.
+    /// The two new ids are equal.
     Same,
     /// There are fewer than two lots or children.
     Few,
     /// The region has no point.
     Empty,
-    /// The work that the line asks for passes a limit.
+    /// The work of the line exceeds a limit.
     Limit,
-    /// A live lot of the layer with which the region shares a point.
+    /// A live lot of the layer that shares a point with the region.
     Overlaps(Name),
     /// The first (1) or the second (2) side of a cut would have no point.
     EmptySide(u8),
@@ -48,11 +48,11 @@ pub enum Refusal {
 /// A verdict line.
 #[derive(Drop)]
 pub enum Verdict {
-    /// It is so.
+    /// The answer to the question is yes.
     Yes,
-    /// It isn't so.
+    /// The answer to the question is no.
     No,
-    /// It is done.
+    /// The command is done.
     Ok,
     /// Two regions are not in contact.
     DC,
@@ -70,37 +70,37 @@ pub enum Verdict {
     TPPi,
     /// The second is a proper part of the first and does not touch its outside.
     NTPPi,
-    /// How many pieces there are; a line for each follows.
+    /// The number of pieces; a line for each follows.
     Pieces(u32),
     /// A piece, by the numbers of its parts, from 1.
     Piece(Numbers),
-    /// How many parts there are; a line for each follows.
+    /// The number of parts; a line for each follows.
     Parts(u32),
     /// A part, by its half-spaces: the points that all of them hold.
     Part(Halves),
-    /// The parcel that is asked for, or one of several.
+    /// The parcel that answers the question, or one of several.
     Parcel(Name),
     /// No parcel has the point.
     Nobody,
-    /// How many neighbours there are; a line for each follows.
+    /// The number of neighbours; a line for each follows.
     Neighbours(u32),
-    /// No two of the live parcels, so many, share a point.
+    /// No two live parcels share a point; the number of live parcels.
     Clear(u32),
-    /// How many live parcels there are; a line for each follows.
+    /// The number of live parcels; a line for each follows.
     Parcels(u32),
-    /// How many lots there are; a line for each follows.
+    /// The number of lots; a line for each follows.
     Lots(u32),
     /// A lot.
     Lot(LotLine),
-    /// How many parts a slice is shown of; a line for each follows.
+    /// The number of parts of the section; a line with a slice of each follows.
     Sections(u32),
-    /// What is shown of a part at a height: in a box, since a slice is large beside all others.
+    /// The slice of a part at a height. It is boxed, since a slice is large and the other variants are small.
     Slice(Box<Slice>),
-    /// How many steps a chain has; a line for each of its parcels follows.
+    /// The number of steps of a chain; a line for each of its parcels follows.
     Access(u32),
     /// There is no chain.
     NoAccess,
-    /// How many steps a parcel is away.
+    /// The number of steps to a parcel.
     Level(u32, Name),
     /// The line is refused.
     Refused(Refusal),
@@ -112,7 +112,7 @@ pub type Echo = Listed<u8>;
 /// The verdict lines of an answer.
 pub type Verdicts = Listed<Verdict>;
 
-/// The answer to a line: its number, the bytes that are echoed, what its tests showed, and the verdicts.
+/// The answer to a line: its number, the echoed bytes, the proof lines of its tests, and the verdicts.
 /// A blank line has an answer without verdicts; the echo of a line that is too long is empty.
 #[derive(Drop)]
 pub struct Answer {
@@ -133,7 +133,7 @@ impl Answer {
     ghost use Rattle.rp_cert.specs.Lines.{line_of};
     ghost use Rattle.rp_answer.specs.Views.{verdict_of, answer_of};
 
-    /// The answer to line `n`, which is blank: it says nothing.
+    /// Returns the answer to line `n`, which is blank: it has no verdicts and an empty echo.
     pub fn blank(alloc: Global, n: u32) -> Answer
         ensures { answer_of result ≡ blank_answer n }
     {
@@ -145,8 +145,12 @@ impl Answer {
         }
     }
 
-    /// The answer to line `n`, with `echo`, whose work passes a limit: it is refused with `limit`, and no proof line is
-    /// told.
+    /// Returns the answer to line `n`, with `echo`, whose work exceeds a limit: the verdict refuses it with `limit`,
+    /// and there are no proof lines.
+    ///
+    /// # Errors
+    ///
+    /// `AllocError` if memory runs out.
     pub fn past_limit(alloc: Global, n: u32, echo: &[u8]) -> Result<Answer, AllocError>
         ensures { IfOk result (λ a. answer_of a ≡ record { number = n; echo = echo.now; proofs = []; verdicts = refused limit ∷ [] }) }
     {
@@ -154,7 +158,11 @@ impl Answer {
         Answer::with_verdict(alloc, n, echo, Proofs::new(alloc), verdict)
     }
 
-    /// The answer to line `n`, with `echo`, the lines of `proofs` and the one verdict line of `verdict`.
+    /// Returns the answer to line `n`, with `echo`, the lines of `proofs` and the one verdict line of `verdict`.
+    ///
+    /// # Errors
+    ///
+    /// `AllocError` if memory runs out.
     pub fn with_verdict(
         alloc: Global,
         n: u32,
@@ -169,7 +177,11 @@ impl Answer {
         Answer::with_verdicts(alloc, n, echo, proofs, verdicts)
     }
 
-    /// The answer to line `n`, with `echo`, the lines of `proofs` and those of `verdicts`.
+    /// Returns the answer to line `n`, with `echo`, the lines of `proofs` and those of `verdicts`.
+    ///
+    /// # Errors
+    ///
+    /// `AllocError` if memory runs out.
     pub fn with_verdicts(
         alloc: Global,
         n: u32,

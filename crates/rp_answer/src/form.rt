@@ -17,9 +17,12 @@ use rp_eval::{first_unknown, formed};
 use rp_oracle::{Named, Stopped, Oracle};
 use std::alloc::Global;
 
-/// The form of `region`, with what `named` knows of names and lots: its parts, at most 1,024, made by `tests` in
-/// reading order, with the parts kept for names. A name or lot that is not there stands for no part. `Limit` exactly
-/// where the operations on forms say so.
+/// Returns the form of `region`, whose names and lots have the forms that `named` gives. `tests` makes its parts, at
+/// most 1,024, in reading order. An unknown name or lot has no part.
+///
+/// # Errors
+///
+/// `Limit` iff an operation on forms returns it. Another `Stopped` with the reason if a test is stopped.
 pub fn short_form<T: Oracle, N: Named<T>>(
     alloc: Global,
     named: &N,
@@ -34,9 +37,12 @@ pub fn short_form<T: Oracle, N: Named<T>>(
     formed(alloc, named, region, tests)
 }
 
-/// The form of `region`, the one expression of a command, behind which its row goes on; `tests` make it. `Refused`
-/// exactly for the first name or lot of `region`, in reading order, that `named` does not know; it comes before any
-/// test.
+/// Returns the form of `region`, the one expression of a command. `tests` makes it.
+///
+/// # Errors
+///
+/// `Refused(Unknown)` iff `named` does not know a name or lot of `region`; it gives the first in reading order, before
+/// any test. Otherwise a stop of `tests`.
 pub fn row_form<T: Oracle, N: Named<T>>(
     alloc: Global,
     named: &N,

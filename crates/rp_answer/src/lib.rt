@@ -1,9 +1,9 @@
 #![tactic(auto)]
-//! What is told of a line: verdict lines, or why it is refused; and what the row of a command comes to.
+//! The answer to a line: verdict lines, or the reason why the line is refused; and the result of the row of a command.
 //!
-//! An [`Answer`] is the number of a line, its echo, what its tests showed, and its verdicts. A row comes to verdict
-//! lines, or to why it ends ([`RowEnd`]): a refusal, or a stop. Many begin with the form of one expression
-//! ([`row_form`]). Calls that answer `AllocError` do so only for want of memory.
+//! An [`Answer`] is the number of a line, its echo, its proof lines, and its verdicts. A row results in verdict lines,
+//! or in the reason why it ends ([`RowEnd`]): a refusal, or a stop. Many begin with the form of one expression
+//! ([`row_form`]). A call returns `AllocError` only if memory runs out.
 
 mod answer;
 mod form;

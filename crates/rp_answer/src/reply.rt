@@ -1,4 +1,4 @@
-//! What a question comes to: verdict lines, or why it ends.
+//! The result of a question: verdict lines, or the reason why it ends.
 ghost use Rattle.std.specs.Prelude.{◌≡◌, ◌∷◌, [], map, IfOk};
 ghost use Rattle.rp_model.specs.commands.Reply.{reply_lines, yes_or_no};
 ghost use Rattle.rp_answer.specs.Views.{verdict_of};
@@ -10,13 +10,13 @@ use std::alloc::{AllocError, Global};
 use std::fmt;
 use thiserror::Error;
 
-/// Why a row has no reply.
+/// The reason why a row has no reply.
 #[derive(Clone, Copy, Drop, Error)]
 pub enum RowEnd {
     /// The row refuses the command.
     #[error("the command is refused")]
     Refused(Refusal),
-    /// It is stopped.
+    /// A limit, a wrong report line or want of memory stops the row.
     #[error("the row is stopped")]
     Stopped(Stopped),
 }
@@ -69,7 +69,11 @@ impl From<NameFault> for RowEnd {
     }
 }
 
-/// The one verdict line `verdict`.
+/// Returns the one verdict line of `verdict`.
+///
+/// # Errors
+///
+/// `AllocError` if memory runs out.
 pub fn one_line(alloc: Global, verdict: Verdict) -> Result<Verdicts, AllocError>
     ensures { IfOk result (λ lines. map verdict_of lines.items ≡ verdict_of verdict ∷ []) }
 {
@@ -78,7 +82,11 @@ pub fn one_line(alloc: Global, verdict: Verdict) -> Result<Verdicts, AllocError>
     Ok(lines)
 }
 
-/// The one verdict line yes where `is_so`, and no otherwise.
+/// Returns the one verdict line `yes` if `is_so`, otherwise `no`.
+///
+/// # Errors
+///
+/// `AllocError` if memory runs out.
 pub fn yes_or_no(alloc: Global, is_so: bool) -> Result<Verdicts, AllocError>
     ensures { IfOk result (λ lines. reply_lines (map verdict_of lines.items) ≡ yes_or_no is_so) }
 {

@@ -1,4 +1,4 @@
--- The word of a search, and how much it finds in a cell.
+-- The words of searches, and the size of what a search finds in a cell.
 use Rattle.std.specs.Prelude.{ℕ, true, false, List, Option, Some, None, length, codes}
 use Rattle.std.specs.Option.{option_map}
 use Rattle.std.specs.Str.{bytes_eq}
@@ -8,7 +8,7 @@ use Rattle.rp_geometry.specs.searches.Elimination.{first_outside}
 use Rattle.rp_bench.specs.declared.search.Search.{Search}
 use Rattle.rp_bench.specs.declared.search.Search.TheVariants.{Decide, Inside, Along, Outside, Apart}
 
--- the word that asks for a search, and that tells that it found something
+-- the word of a search, in the question and in the answer
 abbrev pub word_of : Search → List ℕ
 word_of Decide = codes "decide"
 word_of Inside = codes "inside"
@@ -16,7 +16,7 @@ word_of Along = codes "along"
 word_of Outside = codes "outside"
 word_of Apart = codes "apart"
 
--- the search of a word, if it asks for one
+-- the search with the given word, if there is one
 abbrev pub search_of : List ℕ → Option Search
 search_of word =
     elim (bytes_eq word (codes "decide")) [

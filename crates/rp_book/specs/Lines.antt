@@ -1,4 +1,4 @@
--- The lines of a script, and which numbers those have that are added to it.
+-- The lines of a script, and the numbers of lines that are added.
 use Rattle.std.specs.Prelude.{◌≡◌, ℕ, ◌+◌, ◌-◌, ◌<◌, List, [], ◌∷◌, length, slice_index}
 use Rattle.rp_language.specs.Grammar.{Version, one, two}
 use Rattle.rp_reports.specs.Text.{line_end}
@@ -12,7 +12,7 @@ HasEnd text = (0 < length text) × (slice_index text (length text - 1) ≡ line_
 abbrev pub IsEnded : List ℕ → Type 0
 IsEnded text = 0 < length text → slice_index text (length text - 1) ≡ line_end
 
--- the number of the last line of a script, as its report echoes it: how many lines there are behind the mark
+-- the number of the last line of a script, as its report echoes it: the number of lines after the mark
 abbrev pub last_number : List ℕ → ℕ
 last_number script = length (script_body script)
 

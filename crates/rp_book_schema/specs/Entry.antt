@@ -1,4 +1,4 @@
--- The table of entries, and what a statement on it leaves.
+-- The table of entries, and the effect of statements on it.
 use Rattle.std.specs.Prelude.{◌≡◌, ◌⊎◌, ℕ, ℤ, pos, Bool, true, false, IsTrue, List, [], ◌∷◌, map, Option, None, Some, codes}
 use Rattle.std.specs.List.Sorted.{IsPermutation}
 use Rattle.sqlite.specs.Collation.TheVariants.{Binary}
@@ -14,7 +14,7 @@ use Rattle.sqlite.specs.Edit.{is_taken}
 use Rattle.sqlite.specs.State.{State, IsUnchanged, IsRolledBack}
 use Rattle.sqlite_schema.specs.declared.schema.Column.{Column}
 
--- a column of a table that is strict
+-- a column of a strict table
 abbrev pub entry_column : List ℕ → Kind → Bool → Column
 entry_column name kind needed = record { name = name; kind = kind; is_strict = true; not_null = needed; default = Null; collation = Binary }
 
@@ -50,7 +50,7 @@ book_schema = record { tables = entry_table ∷ []; indexes = []; views = [] }
 abbrev pub no_schema : Schema
 no_schema = record { tables = []; indexes = []; views = [] }
 
--- the rows of the table
+-- the rows of the table `entry`
 abbrev pub entries_in : Trees → List Row
 entries_in db = db 0
 
@@ -64,7 +64,7 @@ pub record Fields : Type 0 where
   pub deed : Option (List ℕ)
   pub lines : List ℕ
 
--- what an entry says that is added so
+-- the values of an entry to be added
 abbrev pub fields_of : ℕ → ℕ → ℕ → List ℕ → Option (List ℕ) → Option (List ℕ) → List ℕ → Fields
 fields_of number first last added who deed lines = record {
   number = pos number;
@@ -76,7 +76,7 @@ fields_of number first last added who deed lines = record {
   lines = lines;
 }
 
--- a text that may not be told
+-- a text as a value; null if there is none
 abbrev pub told : Option (List ℕ) → Value
 told None = Null
 told (Some text) = Words text
@@ -85,18 +85,18 @@ told (Some text) = Words text
 abbrev pub entry_values : Fields → Row
 entry_values e = Int e.number ∷ Int e.first ∷ Int e.last ∷ Words e.added ∷ told e.who ∷ told e.deed ∷ Words e.lines ∷ []
 
--- what a query of all columns shows of an entry
+-- the columns of an entry that a query of all columns shows
 abbrev pub shown_entry : Row → Row
 shown_entry row = column row 0 ∷ column row 2 ∷ column row 3 ∷ column row 4 ∷ column row 5 ∷ column row 6 ∷ column row 7 ∷ []
 
--- an entry that says this came to the rows, none of which had its number
+-- an entry with these values was added to the rows, none of which had its number
 pub record GainsEntry (rows after : List Row) (entry : Fields) : Type 0 where
   pub row : Row
   pub shown : shown_entry row ≡ entry_values entry
   pub free : is_taken rows row ≡ false
   pub put : after ≡ put_row row rows
 
--- an entry came to the table, and was committed
+-- an entry was added to the table, and committed
 pub record AddsEntry (old new : State) (entry : Fields) : Type 0 where
   pub gains : GainsEntry (entries_in old.now.trees) (entries_in new.now.trees) entry
   pub schema : new.now.schema ≡ book_schema
@@ -108,7 +108,7 @@ pub record AddsEntry (old new : State) (entry : Fields) : Type 0 where
 abbrev pub LeavesCommit : State → State → Type 0
 LeavesCommit old new = IsUnchanged old new ⊎ IsRolledBack old new
 
--- the table was made, and has no row
+-- the table was created, and has no row
 pub record MakesTable (old new : State) : Type 0 where
   pub schema : new.now.schema ≡ book_schema
   pub empty : entries_in new.now.trees ≡ []

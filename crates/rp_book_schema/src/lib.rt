@@ -1,9 +1,11 @@
 #![tactic(auto)]
 //! The table of a book in an SQLite database, and the statements on it, each in a function of its own.
 //!
-//! The table `entry` has a row for each time that lines were added: its number, the numbers of its first and last line as the
-//! report echoes them, the time, who added them and under which deed, where that was told, and the lines, each with its line
-//! end.
+//! The table `entry` has a row for each time that lines were added. Its columns are:
+//!
+//! * the number of the entry, and the numbers of its first and last line as the report echoes them;
+//! * the time, who added the lines and under which deed, if given;
+//! * the lines, each with its line end.
 ghost use Rattle.std.specs.Prelude.{◌≡◌, ◌≤◌, OnOk, OnErr, IfOk, option_map};
 ghost use Rattle.sqlite.specs.Values.{bound};
 ghost use Rattle.sqlite.specs.State.{HasCleanDisk, IsUnchanged, Survives};
@@ -17,7 +19,7 @@ pub use schema::{has_entries, is_book, is_empty};
 use sqlite::types::{ToSql, ValueRef};
 use sqlite::{Alter, Connection, Error, Row};
 
-/// Makes the table of an empty database.
+/// Creates the table `entry` in an empty database.
 pub fn create<S: Alter>(conn: &mut Connection<S>) -> Result<usize, Error>
     ensures makes { HasCleanDisk (state S.Store conn.new) → (state S.Store conn.old).now.schema ≡ no_schema
         → OnOk result (MakesTable (state S.Store conn.old) (state S.Store conn.new)) }
@@ -28,7 +30,7 @@ pub fn create<S: Alter>(conn: &mut Connection<S>) -> Result<usize, Error>
     )
 }
 
-/// Adds an entry with these values.
+/// Adds an entry with the given values of its columns.
 fn insert_values<S: Alter>(
     conn: &mut Connection<S>,
     values: [ValueRef<'_>; 7],
@@ -46,8 +48,8 @@ fn insert_values<S: Alter>(
     )
 }
 
-/// Adds the entry `number`, of the lines from `first` to `last` of the script: when it was `added`, by `who` and by which `deed`,
-/// where these are told, and `lines`, byte for byte.
+/// Adds the entry `number`, of the lines from `first` to `last` of the script: the time `added`, `who` added it and
+/// under which `deed`, if given, and `lines`, byte for byte.
 pub fn insert<'x, S: Alter>(
     conn: &mut Connection<S>,
     number: u32,
@@ -79,7 +81,7 @@ pub fn insert<'x, S: Alter>(
     insert_values(conn, values)
 }
 
-/// All that each entry says.
+/// Returns the columns of all entries, in the order of their numbers.
 pub fn select<S: Alter>(conn: &mut Connection<S>) -> Result<Vec<Row>, Error>
     ensures lists { HasCleanDisk (state S.Store conn.new) → (state S.Store conn.old).now.schema ≡ book_schema
         → IfOk result (λ rows. ListsEntries (entries_in (state S.Store conn.old).now.trees) rows.items) }

@@ -1,4 +1,4 @@
-//! Whether a schema is that of a book.
+//! Tests of a schema.
 ghost use Rattle.std.specs.Prelude.{◌≡◌, ◌↔◌, [], Any, IsTrue, codes};
 ghost use Rattle.rp_book_schema.specs.Entry.{book_schema, entry_column, entry_columns, entry_table, no_schema};
 
@@ -6,7 +6,8 @@ use sqlite_schema::schema::{Column, Kind, Schema, Stamps, Table};
 use sqlite_value::keys::Collation;
 use sqlite_value::value::Value;
 
-/// Whether a column is strict and has the name, the kind and no default, and whether it has to be given.
+/// Returns whether `column` is strict, has `name`, `kind`, binary collation and no default, and is NOT NULL iff
+/// `needed`.
 fn is_column(column: &Column, name: &[u8], kind: Kind, needed: bool) -> bool
     ensures { IsTrue result → column.now ≡ entry_column name.now kind needed }
 {
@@ -18,7 +19,7 @@ fn is_column(column: &Column, name: &[u8], kind: Kind, needed: bool) -> bool
         && column.collation == Collation::Binary
 }
 
-/// Whether these are the columns of the table of entries.
+/// Returns whether `columns` are those of the table of entries.
 fn are_columns(columns: &[Column]) -> bool
     ensures { IsTrue result → columns.now ≡ entry_columns }
 {
@@ -38,14 +39,14 @@ fn are_columns(columns: &[Column]) -> bool
     }
 }
 
-/// Whether no default of a table reads the time.
+/// Returns whether no default of a table reads the time.
 fn is_unstamped(stamps: &Stamps) -> bool
     ensures { IsTrue result → stamps.now ≡ record { places = []; terms = []; formats = [] } }
 {
     stamps.places.is_empty() && stamps.terms.roots.is_empty() && stamps.formats.is_empty()
 }
 
-/// Whether a table is that of entries.
+/// Returns whether `table` is the table of entries.
 fn is_entry_table(table: &Table) -> bool
     ensures { IsTrue result → table.now ≡ entry_table }
 {
@@ -63,7 +64,7 @@ fn is_entry_table(table: &Table) -> bool
         && !table.is_counted
 }
 
-/// Whether a schema is that of a book.
+/// Returns whether `schema` is that of a book.
 pub fn is_book(schema: &Schema) -> bool
     ensures { IsTrue result → schema.now ≡ book_schema }
 {
@@ -73,14 +74,14 @@ pub fn is_book(schema: &Schema) -> bool
     }
 }
 
-/// Whether a schema is that of an empty database.
+/// Returns whether `schema` is that of an empty database.
 pub fn is_empty(schema: &Schema) -> bool
     ensures { IsTrue result → schema.now ≡ no_schema }
 {
     schema.tables.is_empty() && schema.indexes.is_empty() && schema.views.is_empty()
 }
 
-/// Whether a schema has a table of entries, of any layout.
+/// Returns whether `schema` has a table of entries, of any layout.
 pub fn has_entries(schema: &Schema) -> bool
     ensures { IsTrue result ↔ Any (λ table. table.name ≡ codes "entry") schema.now.tables }
 {

@@ -1,4 +1,4 @@
--- Acts on a date, and what is put of them.
+-- Acts up to a date, and what is put of them.
 use Rattle.std.specs.Prelude.{◌≡◌, ◌≤◌, ◌+◌, ℕ, Bool, if◌then◌else◌, max, take, List, [], ◌∷◌, ◌++◌, length, Option, codes, decimal}
 use Rattle.std.specs.Cmp.Lexicographic.{slice_cmp}
 use Rattle.std.specs.Ordering.{is_le, nat_cmp}
@@ -13,33 +13,33 @@ use Rattle.rp_book_service.specs.Children.{children_text}
 use Rattle.rp_book_service.specs.Events.{events_text}
 use Rattle.rp_book_service.specs.Layers.{lines_in}
 
--- what was added at a time was added on a date or before: a time begins with its date, and of two dates the earlier one comes first
+-- a time is on the date or before: the first ten characters of the time, its date, are not after the date
 abbrev pub is_by : List ℕ → List ℕ → Bool
 is_by date time = is_le (slice_cmp nat_cmp (take 10 time) date)
 
--- the number of the last line of an act that was added on a date or before, else 0
+-- the number of the last line of an act that was added on the date or before; otherwise 0
 abbrev pub line_by : List ℕ → Told → ℕ
 line_by date act = if is_by date act.added then act.last else 0
 
--- the number of the last line that was added on a date or before, 0 if there is none
+-- the number of the last line that was added on the date or before; 0 if there is none
 abbrev pub last_by : List ℕ → List Told → ℕ
 last_by date [] = 0
 last_by date (act ∷ acts) = max (line_by date act) (last_by date acts)
 
--- an act has a line
+-- the act has the line
 abbrev pub HasLine : ℕ → Act → Type 0
 HasLine line act = (act.first ≤ line) × (line ≤ act.last)
 
--- the words of a line, each behind a space
+-- the words of a line, each after a space
 abbrev pub spaced : List (List ℕ) → List ℕ
 spaced [] = []
 spaced (word ∷ words) = 32 ∷ word ++ spaced words
 
--- the line that asks whose a place was after a line
+-- the line of the question whose a place was after line n
 abbrev pub as_of_line : ℕ → List (List ℕ) → List ℕ
 as_of_line n words = codes "asof " ++ decimal n ++ spaced words ++ 10 ∷ []
 
--- the line that asks what became of a lot
+-- the line of the question of the history of a lot
 abbrev pub history_line : List ℕ → List ℕ
 history_line id = codes "history " ++ id ++ 10 ∷ []
 
@@ -47,7 +47,7 @@ history_line id = codes "history " ++ id ++ 10 ∷ []
 abbrev pub PutsAsOf : List ℕ → List Told → List ℕ → Option Label → List (List ℕ) → Bool → Option (List ℕ) → Option (List ℕ) → Type 0
 PutsAsOf script acts date layer point mark old new = PutsBehind script (lines_in layer (as_of_line (last_by date acts) point)) old new mark
 
--- a script with this question after it has so many bytes
+-- a script with this question after it has n bytes
 abbrev pub HasAsOfLength : List Told → List ℕ → Option Label → List (List ℕ) → ℕ → List ℕ → Type 0
 HasAsOfLength acts date layer point n script = n ≡ length script + length (lines_in layer (as_of_line (last_by date acts) point))
 

@@ -10,18 +10,18 @@ use Rattle.rp_book_service.specs.declared.add.Outcome.TheVariants.{Added, Empty,
 use Rattle.rp_reports.specs.Report.{IsReport, script_lines}
 use Rattle.rp_reports.specs.Output.{is_refused_line}
 
--- lines, the last of which has a line end too
+-- the lines, with a line end after the last one
 abbrev pub ended : List ℕ → List ℕ
 ended [] = []
 ended (b ∷ bs) = elim (slice_index (b ∷ bs) (length (b ∷ bs) - 1) == line_end) [ true ↦ b ∷ bs | false ↦ (b ∷ bs) ++ line_end ∷ [] ]
 
--- a line of the report of a script is a refusal exactly where the mark says so
+-- the mark is true iff a line of the report of the script is a refusal
 pub record HasRefusal (script : List ℕ) (mark : Bool) : Type 0 where
   pub told : List (List ℕ)
   pub report : IsReport script told
   pub marks : IsTrue mark ↔ IsTrue (list_any is_refused_line told)
 
--- what came to the end of what a sink said is what the report of a script with lines behind it has behind the report of the script; the mark says whether a line of that report is a refusal
+-- the lines put are those that the report of a script with further lines has after the report of the script; the mark says whether a line of that report is a refusal
 pub record PutsBehind (script lines : List ℕ) (old new : Option (List ℕ)) (mark : Bool) : Type 0 where
   pub before : List (List ℕ)
   pub told : List (List ℕ)
@@ -30,18 +30,18 @@ pub record PutsBehind (script lines : List ℕ) (old new : Option (List ℕ)) (m
   pub text : Appends old new (text_of_lines told)
   pub marks : IsTrue mark ↔ IsTrue (list_any is_refused_line (before ++ told))
 
--- a line that was to be added is refused
+-- a line to be added is refused
 abbrev pub is_refused : Outcome → Bool
 is_refused Refused = true
 is_refused _ = false
 
--- the first fact if the lines were added, else the second
+-- the first statement if the lines were added, otherwise the second
 abbrev pub MatchOutcome : Outcome → Type 0 → Type 0 → Type 0
 MatchOutcome (Added addition) P Q = P
 MatchOutcome Refused P Q = Q
 MatchOutcome Empty P Q = Q
 
--- the command changes which lots there are
+-- the command adds or ends lots
 abbrev pub is_change : Command → Bool
 is_change (register x e) = true
 is_change (cut x e y z) = true
@@ -50,11 +50,11 @@ is_change (consolidate x ys) = true
 is_change (retire x) = true
 is_change _ = false
 
--- a line that is read so changes which lots there are
+-- a line with this reading adds or ends lots
 abbrev pub changes : Reading → Bool
 changes (command c) = is_change c
 changes _ = false
 
--- some of the lines changes which lots there are
+-- some line adds or ends lots
 abbrev pub has_change : Version → List ℕ → Bool
 has_change v lines = list_any (λ line. changes (reading v line)) (script_lines lines)

@@ -1,4 +1,4 @@
--- A machine that answers lines.
+-- Machines that answer lines.
 use Rattle.std.specs.Prelude.{◌≡◌, ℕ, Bool, false, List, ◌++◌, Option}
 use Rattle.std.specs.List.{list_any}
 use Rattle.rp_io.specs.Bytes.{Appends}
@@ -9,7 +9,7 @@ use Rattle.rp_reports.specs.Report.{script_lines}
 use Rattle.rp_reports.specs.Machine.{Running, lines_from}
 use Rattle.rp_reports.specs.Output.{is_refused_line}
 
--- the report lines, full or brief, of lines that a machine meets, the first with the number
+-- the report lines, full or brief, of a machine's answers to lines, of which the first has the number
 abbrev pub lines_by : Running → Bool → ℕ → List (List ℕ) → List (List ℕ)
 lines_by m brief number lines = lines_from m.version brief m.state number lines
 

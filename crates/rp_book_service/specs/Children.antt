@@ -1,4 +1,4 @@
--- The lots that an ended lot became, and the text that says so.
+-- The lots that an ended lot became, and the text that names them.
 use Rattle.std.specs.Prelude.{ℕ, ◌-◌, ◌==◌, Bool, true, false, List, [], ◌∷◌, ◌++◌, length, take, drop, Option, None, Some, codes, decimal, option_map, option_and_then}
 use Rattle.std.specs.List.{after_first, before_first, flat_map, slice_get}
 use Rattle.std.specs.Str.{bytes_eq}
@@ -51,12 +51,12 @@ abbrev pub after_commas : List Label → List ℕ
 after_commas [] = []
 after_commas (x ∷ xs) = codes ", " ++ x ++ after_commas xs
 
--- the text that names the lots that a lot became in a line with a number; nothing if there are none
+-- the text that names the lots that a lot became in line n; empty if there are none
 abbrev pub became : List ℕ → ℕ → List Label → List ℕ
 became id n [] = []
 became id n (x ∷ xs) = codes "  " ++ id ++ codes " ended " ++ decimal n ++ codes ": became " ++ x ++ after_commas xs ++ line_end ∷ []
 
--- what is written for a lot that ended in a line of a body, by the line's number: the new lots of the command of that line
+-- the text for a lot that ended in line n of a body: the new lots of the command of the line
 abbrev pub became_in : Version → List (List ℕ) → List ℕ → ℕ → List ℕ
 became_in v body id n = elim (slice_get body (n - 1)) [ None ↦ [] | Some line ↦ became id n (children_of (reading v line)) ]
 

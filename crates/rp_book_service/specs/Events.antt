@@ -40,15 +40,15 @@ event_line id word n act = event_time id word n act.added ++ told_after (codes "
 abbrev pub event_in : List Told → List ℕ → List ℕ → ℕ → List ℕ
 event_in acts id word n = elim (act_with n acts) [ None ↦ [] | Some act ↦ event_line id word n act ]
 
--- the same of a lot and a number, if there are some
+-- the text for a lot and a number, if there are some
 abbrev pub event_of : List Told → List ℕ → Option (List ℕ × ℕ) → List ℕ
 event_of acts word None = []
 event_of acts word (Some lot) = event_in acts lot.0 word lot.1
 
--- what is written of a line of an answer: the act in which its lot was born, and then that in which it ended
+-- the text for a line of an answer: the act in which its lot was born, and then the act in which it ended
 abbrev pub events_by : List Told → List ℕ → List ℕ
 events_by acts told = event_of acts (codes " born ") (born_lot told) ++ event_of acts (codes " ended ") (ended_lot told)
 
--- what is written of the lines of an answer, in order
+-- the text for the lines of an answer, in order
 abbrev pub events_text : List Told → List ℕ → List ℕ
 events_text acts answer = flat_map (events_by acts) (script_lines answer)

@@ -7,7 +7,7 @@ use Rattle.rp_book_service.specs.Replayed.{Continue, IsFirstUnlike, entry_lines}
 use Rattle.rp_book_service.specs.declared.replay.Joined.{Joined}
 use Rattle.rp_book_service.specs.declared.replay.Joined.TheVariants.{Script, Unlike}
 
--- entries continue a script with so many acts, and a text is the script with their lines
+-- entries continue a script with a number of acts, and the text is the script with their lines
 pub record IsJoined (script : List ℕ) (count : ℕ) (entries : List ActEntry) (whole : List ℕ) : Type 0 where
   pub whole_is : whole ≡ script ++ entry_lines entries
   pub continues : Continue script count entries
@@ -18,7 +18,7 @@ abbrev pub MatchJoined : List ℕ → ℕ → List ActEntry → Joined → Type 
 MatchJoined script count entries (Script whole) = IsJoined script count entries whole.items
 MatchJoined script count entries (Unlike number) = IsFirstUnlike script count entries number
 
--- entries continue the script and the acts of a book, if the book tells them
+-- entries continue the script and the acts of a book, if these are known
 pub record MayTake (told : Option (List ℕ)) (listed : Option (List Told)) (entries : List ActEntry) : Type 0 where
   pub script : List ℕ
   pub count : ℕ

@@ -9,11 +9,11 @@ use Rattle.rp_sealed_book.specs.Log.{log_of}
 use Rattle.rp_book_service.specs.declared.replay.Replayed.{Replayed}
 use Rattle.rp_book_service.specs.declared.replay.Replayed.TheVariants.{Whole, Refused, Unlike}
 
--- the lines of entries, one after the other
+-- the lines of entries, one entry after another
 abbrev pub entry_lines : List ActEntry → List ℕ
 entry_lines entries = flat_map (λ e. e.lines) entries
 
--- an entry can come after a script with so many acts: it has the next number, its last line has a line end, its lines have the numbers that the report of the script with them has, and the script with them is not too long
+-- an entry can come after a script with `count` acts: it has the next number, its last line has a line end, its lines have the numbers of the report, and the script with them is not too long
 pub record IsNext (script : List ℕ) (count : ℕ) (e : ActEntry) : Type 0 where
   pub number : e.number ≡ count + 1
   pub ended : HasEnd e.lines
@@ -21,17 +21,17 @@ pub record IsNext (script : List ℕ) (count : ℕ) (e : ActEntry) : Type 0 wher
   pub last : e.last ≡ last_number (script ++ e.lines)
   pub short : length script + length e.lines ≤ most_script_bytes
 
--- entries continue a script with so many acts: each can come after the script and the entries before it
+-- entries continue a script with `count` acts: each can come after the script and the entries before it
 abbrev pub Continue : List ℕ → ℕ → List ActEntry → Type 0
 Continue script count [] = ⊤
 Continue script count (e ∷ entries) = IsNext script count e × Continue (script ++ e.lines) (count + 1) entries
 
--- the first entry that cannot come after a script with so many acts and the entries before it has a number
+-- the number is that of the first entry that cannot come after the script and the entries before it
 abbrev pub IsFirstUnlike : List ℕ → ℕ → List ActEntry → ℕ → Type 0
 IsFirstUnlike script count [] number = ⊥
 IsFirstUnlike script count (e ∷ entries) number = ((¬ IsNext script count e) × (e.number ≡ number)) ⊎ (IsNext script count e × IsFirstUnlike (script ++ e.lines) (count + 1) entries number)
 
--- a book told its script and its acts before, and entries came to the end of its log
+-- the script and the acts of a book were known before, and entries were appended to its log
 pub record LogGrew (told : Option (List ℕ)) (listed : Option (List Told)) (script : List ℕ) (acts : List Told) (entries : List ActEntry) : Type 0 where
   pub script_before : List ℕ
   pub acts_before : List Told
@@ -39,7 +39,7 @@ pub record LogGrew (told : Option (List ℕ)) (listed : Option (List Told)) (scr
   pub was_listed : listed ≡ Some acts_before
   pub log : log_of script acts ≡ log_of script_before acts_before ++ entries
 
--- if a book tells its script and its acts, entries came to the end of its log
+-- if the script and the acts of a book are known, entries were appended to its log
 abbrev pub GainsEntries : Option (List ℕ) → Option (List Told) → Option (List ℕ) → Option (List Told) → List ActEntry → Type 0
 GainsEntries told_old listed_old told_new listed_new entries = IfSome told_new (λ script. IfSome listed_new (λ acts. LogGrew told_old listed_old script acts entries))
 
@@ -47,7 +47,7 @@ GainsEntries told_old listed_old told_new listed_new entries = IfSome told_new (
 abbrev pub RecoversBeginning : Recoverable → Recoverable → Option (List ℕ) → List ActEntry → Type 0
 RecoversBeginning old new told entries = (test : List ℕ → Bool) → old test → IfSome told (λ script. (n : ℕ) → IsTrue (test (script ++ entry_lines (take n entries)))) → new test
 
--- the first fact if all acts were added, the second if a line is refused, the third, of the number of an act, if this act does not continue the book
+-- the first statement if all acts were added; the second if a line is refused; the third, of the number of an act, if this act does not continue the book
 abbrev pub MatchReplayed : Replayed → Type 0 → Type 0 → (ℕ → Type 0) → Type 0
 MatchReplayed Whole P Q R = P
 MatchReplayed Refused P Q R = Q

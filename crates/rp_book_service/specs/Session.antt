@@ -1,4 +1,4 @@
--- Questions that come in pieces after a script, and the answers to those that have come.
+-- Questions that come in pieces after a script, and the answers to those that are complete.
 use Rattle.std.specs.Prelude.{◌≡◌, ℕ, ◌+◌, ◌≤◌, Bool, true, false, ◌||◌, List, [], ◌∷◌, ◌++◌, length, Option, Some, IfSome, option_map}
 use Rattle.std.specs.List.{list_any}
 use Rattle.rp_book.specs.Lines.{HasEnd, IsEnded}
@@ -31,7 +31,7 @@ pub record IsCut (text lines rest : List ℕ) : Type 0 where
   pub ended : IsEnded lines
   pub unended : HasNoEnd rest
 
--- the line end that an unfinished line lacks; none if no line is unfinished
+-- the line end that an unfinished line lacks; nothing if no line is unfinished
 abbrev pub missing_end : List ℕ → List ℕ
 missing_end [] = []
 missing_end (b ∷ bs) = line_end ∷ []
@@ -45,12 +45,12 @@ abbrev pub IsFirst : Option (List ℕ) → Option (List ℕ) → First → Type 
 IsFirst before after (All bytes) = IfSome before (λ input. input ≡ bytes.items)
 IsFirst before after (Lines lines rest) = HasEnd lines.items × HasNoEnd rest.items × IfSome before (λ input. (more : List ℕ) × (after ≡ Some more) × (input ≡ (lines.items ++ rest.items) ++ more))
 
--- the bytes that were read first are not more than a script may have
+-- the bytes that were read first are at most as many as a script may have
 abbrev pub IsShort : First → Type 0
 IsShort (All bytes) = length bytes.items ≤ most_script_bytes
 IsShort (Lines lines rest) = length lines.items + length rest.items ≤ most_script_bytes
 
--- a session reads lines by the version of its machine, the number of its next line is above every birth and every end of a lot, and its unfinished line has no line end
+-- a session reads lines in the version of its machine; the number of its next line is above every birth and every end of a lot; its unfinished line has no line end
 pub record IsReady (s : Session) : Type 0 where
   pub version : version_of s.version ≡ s.machine.version
   pub later : IsLaterThan s.next (state_of_parts s.machine.state)
@@ -76,7 +76,7 @@ pub record Replies (piece : List ℕ) (before after : Session) (old new : Option
   pub cut : IsCut (before.unfinished.items ++ piece) lines after.unfinished.items
   pub answers : AnswersLines lines before after old new
 
--- a machine has answered lines up to one that changes which lots there are: the report lines of the lines before it were put, and none of these lines changes which lots there are
+-- a machine has answered lines up to one that changes lots: the report lines of the lines before it were put, and none of these lines changes lots
 pub record StopsAtChange (machine : Running) (number : ℕ) (lines : List (List ℕ)) (old new : Option (List ℕ)) : Type 0 where
   pub front : List (List ℕ)
   pub line : List ℕ
@@ -86,7 +86,7 @@ pub record StopsAtChange (machine : Running) (number : ℕ) (lines : List (List 
   pub questions : list_any (λ l. changes (reading machine.version l)) front ≡ false
   pub put : Appends old new (text_of_lines (lines_by machine false number front))
 
--- a session has answered the complete lines of a text up to one that changes which lots there are
+-- a session has answered the complete lines of a text up to one that changes lots
 pub record HasChangeIn (s : Session) (text : List ℕ) (old new : Option (List ℕ)) : Type 0 where
   pub lines : List ℕ
   pub rest : List ℕ
@@ -105,7 +105,7 @@ pub record PutsBeforeChange (script lines : List ℕ) (old new : Option (List �
   pub put : Appends old new (text_of_lines told)
   pub answers : lines_from (script_version script) false opening 1 (script_body script) ++ told ≡ lines_from (script_version script) false opening 1 (script_body script ++ front)
 
--- a fact if a call stopped at a line that changes which lots there are
+-- the statement, if a call stopped at a line that changes lots
 abbrev pub IfChange : Stop → Type 0 → Type 0
 IfChange Change P = P
 IfChange Read P = Unit {0}
@@ -114,7 +114,7 @@ IfChange (Memory e) P = Unit {0}
 IfChange (TooLong n) P = Unit {0}
 IfChange (Book f) P = Unit {0}
 
--- why the lines of a text were not all answered by a machine, the first of which has the number: a put failed, or one of them changes which lots there are; nothing is claimed where memory ran out
+-- why the lines of a text were not all answered by a machine: a put failed, or one of them changes lots; nothing is stated if memory ran out
 abbrev pub HasAnswerCause : ℕ → ℕ → Running → ℕ → List ℕ → Option (List ℕ) → Option (List ℕ) → Stop → Type 0
 HasAnswerCause before after machine number lines old new Put = HasRisen before after
 HasAnswerCause before after machine number lines old new (Memory e) = Unit {0}
@@ -123,7 +123,7 @@ HasAnswerCause before after machine number lines old new Read = ⊥
 HasAnswerCause before after machine number lines old new (TooLong n) = ⊥
 HasAnswerCause before after machine number lines old new (Book f) = ⊥
 
--- why the complete lines of a text were not all answered by a session: a put failed, or one of them changes which lots there are; nothing is claimed where memory ran out
+-- why the complete lines of a text were not all answered by a session: a put failed, or one of them changes lots; nothing is stated if memory ran out
 abbrev pub HasPieceCause : ℕ → ℕ → Session → List ℕ → Option (List ℕ) → Option (List ℕ) → Stop → Type 0
 HasPieceCause before after s text old new Put = HasRisen before after
 HasPieceCause before after s text old new (Memory e) = Unit {0}

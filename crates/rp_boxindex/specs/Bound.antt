@@ -1,4 +1,4 @@
--- What bounds the nodes that a search visits.
+-- The bound of the number of nodes that a search visits.
 use Rattle.std.specs.Prelude.{ℕ, ◌+◌, ◌*◌, ◌^◌, ◌<◌, ◌≤◌, Bool}
 use Rattle.std.specs.FinMap.{entries}
 use Rattle.rp_geometry.specs.Geometry.{IntegerBox}
@@ -7,11 +7,11 @@ use Rattle.rp_boxindex.specs.Boxes.{Boxes, Entry}
 use Rattle.rp_boxindex.specs.Counts.{count}
 use Rattle.rp_boxindex.specs.Meeting.{do_spans_meet}
 
--- the box of an entry meets a box on the x axis
+-- the box of an entry meets a box on the x axis, as closed or as half-open boxes
 abbrev pub meets_on_x : Bool → IntegerBox → Entry → Bool
 meets_on_x closed b e = do_spans_meet closed b.x1 b.x2 (integer_box e.1).x1 (integer_box e.1).x2
 
--- how many boxes meet a box on the x axis
+-- the number of boxes that meet a box on the x axis
 abbrev pub count_on_x : Bool → IntegerBox → Boxes → ℕ
 count_on_x closed b boxes = count (meets_on_x closed b) (entries boxes)
 

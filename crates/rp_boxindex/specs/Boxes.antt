@@ -9,7 +9,7 @@ use Rattle.rp_space.specs.declared.bounds.IntBox.{IntBox}
 abbrev pub Boxes : Type 0
 Boxes = FinMap nat_cmp IntBox
 
--- a box is stored as the pair of its corners
+-- the code of a box: the pair of its corners
 abbrev pub coded_box : Coded IntBox
 coded_box = code_by (List ℤ × List ℤ) (coded× (coded_list coded_ℤ) (coded_list coded_ℤ)) (λ b. (b.lo, b.hi)) (λ p. record { lo = p.0; hi = p.1 }) (λ _. refl)
 

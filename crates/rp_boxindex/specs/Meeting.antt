@@ -1,4 +1,4 @@
--- Which boxes meet a box.
+-- When boxes meet.
 use Rattle.std.specs.Prelude.{ℕ, Bool, cond, ◌&&◌, ℤ, int_lt, int_le, List, [], ◌∷◌, map, Option, Some, None}
 use Rattle.std.specs.List.{filter}
 use Rattle.std.specs.FinMap.{entries}
@@ -6,15 +6,15 @@ use Rattle.rp_geometry.specs.Geometry.{IntegerBox, boxes_meet, closed_boxes_meet
 use Rattle.rp_space.specs.Boxes.{integer_box}
 use Rattle.rp_boxindex.specs.Boxes.{Boxes, Entry}
 
--- a bound lies before another; those of closed boxes may be equal
+-- a bound is below another; for closed boxes they may be equal
 abbrev pub is_below : Bool → ℤ → ℤ → Bool
 is_below closed a b = cond closed (int_le a b) (int_lt a b)
 
--- two spans of an axis meet, from a to b and from c to d
+-- two intervals on an axis meet: from a to b, and from c to d
 abbrev pub do_spans_meet : Bool → ℤ → ℤ → ℤ → ℤ → Bool
 do_spans_meet closed a b c d = is_below closed a d && is_below closed c b
 
--- two boxes meet, as closed boxes or as half-open ones
+-- two boxes meet, as closed or as half-open boxes
 abbrev pub do_meet : Bool → IntegerBox → IntegerBox → Bool
 do_meet closed b e = cond closed (closed_boxes_meet b e) (boxes_meet b e)
 

@@ -1,4 +1,4 @@
--- Words of the search tree, which no caller needs.
+-- Definitions of the search tree, which no caller needs.
 pub mod Cost
 pub mod Nodes
 pub mod Order

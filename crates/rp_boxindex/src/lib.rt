@@ -1,10 +1,10 @@
 #![tactic(auto)]
-//! Boxes under their ids, in two search trees that find the boxes which meet a box without a look at each.
+//! Boxes under their ids, in two search trees that find the boxes which meet a box without visiting every box.
 //!
-//! An [`Index`] is a finite map: a box is refused exactly where its id is there. The ids of the boxes that meet a box,
-//! half-open or closed, are answered: all of them and no other, in rising order; or the least of them that passes a
-//! test, without memory. With n boxes, of which k meet it on the x axis, at most (k + 1)(2h + 2) nodes are visited, h
-//! the greatest number with 2^h at most (n + 1)^2. Calls that answer `AllocError` do so only for want of memory.
+//! An [`Index`] is a finite map: a box is refused iff its id is there. A search returns the ids of exactly the boxes
+//! that meet a box, half-open or closed, in rising order; or, without memory, the least of them that passes a test.
+//! With n boxes, of which k meet the box on the x axis, at most (k + 1)(2h + 2) nodes are visited, h the greatest
+//! number with 2^h at most (n + 1)^2. A call returns `AllocError` only if memory runs out.
 
 mod cells;
 mod choice;

@@ -11,8 +11,8 @@ use std::collections::BTreeMap;
 
 /// The least corner of the box under each id, by which the trees find an id.
 ///
-/// Nobody can go over the ids, or read a corner without taking it out. So what a search reads of the boxes goes by
-/// counted steps: `Tree::visit` and `Cells::visit` are the calls that show a node outside its module.
+/// No function goes through the ids, or reads a corner without removing it. So what a search reads of the boxes is
+/// counted in steps: only `Tree::visit` and `Cells::visit` show a node outside its module.
 #[derive(Drop)]
 pub(crate) struct Lows {
     map: BTreeMap<u32, Corner>,
@@ -28,7 +28,7 @@ impl Lows {
         }
     }
 
-    /// Puts an id in with its corner. After `AllocError` nothing has changed.
+    /// Adds `id` with its corner. After `AllocError` nothing has changed.
     pub(crate) fn insert(&mut self, id: u32, low: Corner) -> Result<(), AllocError>
         ensures entries { OnOk result (self.new.map.entries ≡ insert_entry nat_cmp self.old.map.entries id low) }
         ensures ordered { OnOk result (IsStrictlySortedBy nat_cmp (keys_of self.new.map.entries)) }

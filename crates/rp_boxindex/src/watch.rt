@@ -1,17 +1,17 @@
-//! Onlookers of the work.
+//! Watches of the work.
 
 use std::sync::atomic::{AtomicU64, Ordering};
 
-/// An onlooker, which is told of each piece of work as it begins. No answer depends on it.
+/// A watch, which is called as each piece of work begins. No answer depends on it.
 pub trait Watch: Sync {
-    /// A node of an index is visited.
+    /// Observes that a node of an index is visited.
     fn node(&self);
 
-    /// Item `i` is judged.
+    /// Observes that item `i` is judged.
     fn item(&self, i: usize);
 }
 
-/// The onlooker that does nothing.
+/// The watch that does nothing.
 #[derive(Clone, Copy)]
 pub struct Quiet;
 
@@ -21,26 +21,26 @@ impl Watch for Quiet {
     fn item(&self, _i: usize) {}
 }
 
-/// An onlooker that counts the nodes, if it is to count.
+/// A watch that counts the visited nodes, or does not count.
 #[derive(Drop)]
 pub struct VisitCount {
     count: Option<AtomicU64>,
 }
 
 impl VisitCount {
-    /// Returns the onlooker that does not count, at the cost of a branch for each node.
+    /// Returns the watch that does not count, at the cost of a branch for each node.
     pub const fn uncounted() -> VisitCount {
         VisitCount { count: None }
     }
 
-    /// Returns the onlooker that counts, from 0.
+    /// Returns the watch that counts, from 0.
     pub const fn counted() -> VisitCount {
         VisitCount {
             count: Some(AtomicU64::new(0)),
         }
     }
 
-    /// Returns how many nodes were visited so far: 0 if they are not counted.
+    /// Returns the number of nodes visited so far: 0 if they are not counted.
     pub fn count(&self) -> u64 {
         match &self.count {
             None => 0,
@@ -48,7 +48,7 @@ impl VisitCount {
         }
     }
 
-    /// Tells another onlooker of as many nodes.
+    /// Calls another watch for as many nodes.
     pub fn tell<W: Watch>(&self, watch: &W) {
         for _ in 0..self.count() {
             watch.node();

@@ -1,4 +1,4 @@
--- What a decision about a cell says.
+-- The results of decisions about a cell.
 use Rattle.std.specs.Prelude.{◌≡◌, true, false, IsTrue, List, Some}
 use Rattle.rp_geometry.specs.Geometry.{RationalPoint, HalfSpace}
 use Rattle.rp_geometry.specs.sets.Shape.{shape_of_cell}

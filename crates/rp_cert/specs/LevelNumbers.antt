@@ -5,7 +5,7 @@ use Rattle.rp_geometry.specs.sections.Trace.{offset_at}
 use Rattle.rp_cert.specs.declared.flat.Number.{Number}
 use Rattle.rp_cert.specs.declared.flat.Number.TheVariants.{A, B, Offset}
 
--- the number of that name
+-- the number with the given name
 abbrev pub number_at : Number → ℤ → HalfSpace → ℤ
 number_at A z h = h.a
 number_at B z h = h.b

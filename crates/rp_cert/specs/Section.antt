@@ -1,4 +1,4 @@
--- Slices of the code as those of the model, and what a slice that passes shows.
+-- The slices of the code as those of the model, and what a slice that passes shows.
 use Rattle.std.specs.Prelude.{◌≡◌, Bool, true, false, ◌&&◌, ◌||◌, ◌↔◌, IsTrue, ℤ, ◌-ℤ◌, ◌*ℤ◌, List, Option, Some, None}
 use Rattle.std.specs.List.{AllByRecursion}
 use Rattle.rp_algebra.specs.Integer.{is_zero}
@@ -13,7 +13,7 @@ use Rattle.rp_geometry.specs.laws.SectionLaws.{IsMemberAt, HasMemberAt, IsRing, 
 use Rattle.rp_cert.specs.declared.slice.Slice.{Slice}
 use Rattle.rp_cert.specs.declared.slice.Slice.TheVariants.{Ring, Flat}
 
--- the slice of the model
+-- the slice of the model for a slice of the code
 abbrev pub slice_shown : Slice → model.Slice
 slice_shown (Ring steps) = model.ring steps
 slice_shown (Flat terms) = model.flat terms
@@ -26,7 +26,7 @@ trace_if z h = elim (has_trace h) [ true ↦ Some (trace_at z h) | false ↦ Non
 abbrev pub turn_from : Trace → HalfSpace → ℤ
 turn_from t h = t.a *ℤ h.b -ℤ t.b *ℤ h.a
 
--- the multiples cancel a and b and are of one of the two kinds
+-- the multiples cancel a and b, and are of one of the two kinds
 abbrev pub cancels_at : ℤ → List Multiple → Bool
 cancels_at z terms = is_zero (weighted_sum (λ h. h.a) terms) && is_zero (weighted_sum (λ h. h.b) terms) && (is_level_kind z terms || is_trace_kind z terms)
 

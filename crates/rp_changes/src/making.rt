@@ -1,4 +1,4 @@
-//! A form becomes a lot.
+//! The registration of a form as a lot.
 ghost use Rattle.std.specs.Prelude.{◌≡◌, ◌≤◌, ◌∷◌, [], List, IfOk, false, length};
 ghost use Rattle.rp_geometry.specs.sets.Shape.{Part};
 ghost use Rattle.rp_geometry.specs.parts.Parts.{most_parts};
@@ -25,8 +25,12 @@ use rp_lots::{
 use rp_oracle::{Stopped, Oracle};
 use std::alloc::{AllocError, Global};
 
-/// Returns the change that makes a form the lot `id` of `layer`, the present one. As many tests are counted as there
+/// Returns the change that makes `form` the lot `id` of `layer`, the present layer. As many tests are counted as there
 /// are pairs of its parts and parts of live lots of the layer whose boxes share more than boundary.
+///
+/// # Errors
+///
+/// `Refused` or `Stopped`, as the definition of the row says.
 pub fn make_lot<T: Oracle, K: Overlaps<T>>(
     alloc: Global,
     keeper: &K,
@@ -43,7 +47,7 @@ pub fn make_lot<T: Oracle, K: Overlaps<T>>(
     Ok(registered(alloc, layer, id, form)?)
 }
 
-/// The checks of a registration, in order: a new id, a form with a part, and room for its parts.
+/// Checks a registration, in this order: `id` is new, `form` has a part, and there is room for its parts.
 fn check_lot<T: Oracle, K: Keeper<T>>(keeper: &K, id: Name, form: &T::Form) -> Result<(), RowEnd>
     ensures row { (w : T) (rest : Walk T Reply) → GoesOn (λ x. x) result w (λ _. rest) (lot_checked (K.state keeper.now) id (T.parts_of form.now) rest w) }
     ensures new { IfOk result (λ _. is_among id (ids_of (K.state keeper.now).lots) ≡ false) }
@@ -56,8 +60,8 @@ fn check_lot<T: Oracle, K: Keeper<T>>(keeper: &K, id: Name, form: &T::Form) -> R
     Ok(check_room::<T, K>(keeper, parts)?)
 }
 
-/// No live lot of `layer` shares a point with the form, which is to be the lot `id`. Their pairs of parts whose boxes
-/// share more than boundary are counted first.
+/// Checks that no live lot of `layer` shares a point with `form`, which is to be the lot `id`. The pairs of their parts
+/// whose boxes share more than boundary are counted first.
 fn check_alone<T: Oracle, K: Overlaps<T>>(
     alloc: Global,
     keeper: &K,
@@ -79,8 +83,8 @@ fn check_alone<T: Oracle, K: Overlaps<T>>(
     Ok(())
 }
 
-/// Returns the id of the first of the lots at some places that shares a point with a form. Only pairs of parts are
-/// tested whose boxes share more than boundary, and nothing is counted.
+/// Returns the id of the first lot, of those at `places`, that shares a point with `form`. Only pairs of parts whose
+/// boxes share more than boundary are tested, and no test is counted.
 fn first_overlapped<T: Oracle, K: Overlaps<T>>(
     alloc: Global,
     keeper: &K,

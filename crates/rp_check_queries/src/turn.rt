@@ -1,4 +1,4 @@
-//! Pairs of lots, judged one after the other on the next lines of a report.
+//! Pairs of lots, judged one after another on the next lines of a report.
 ghost use Rattle.std.specs.Prelude.{◌≡◌, ◌++◌, ◌∷◌, [], IfOk, OnOk, length, map};
 ghost use Rattle.std.specs.List.{AllByRecursion};
 ghost use Rattle.rp_reports.specs.Check.{line_tester};
@@ -12,9 +12,9 @@ use rp_oracle::Stopped;
 use rp_trail::{Form, Trail, common, touching};
 use std::alloc::{AllocError, Global};
 
-/// Returns, for each of `pairs` in order, whether its two lots meet, as `reach` says, on the next lines of `trail`. The
-/// numbers of a pair are places in `forms`. Only pairs of parts are tested whose boxes let them meet, up to the first
-/// that does; nothing is counted.
+/// Returns whether the two lots of each of `pairs` meet, as `reach` says, in order, on the next lines of `trail`. A lot
+/// of a pair is an index of `forms`. Only pairs of parts whose boxes let them meet are tested, up to the first that
+/// does, and no test is counted.
 pub(crate) fn meet_in_turn(
     alloc: Global,
     forms: &[Form],
@@ -35,9 +35,9 @@ pub(crate) fn meet_in_turn(
     Ok(met)
 }
 
-/// Follows the next lines of `trail`, which show for each of `pairs`, in order, that its two lots share no point. The
-/// numbers of a pair are places in `forms`. Only pairs of parts are tested whose boxes share more than boundary;
-/// nothing is counted. `TakenWrong` at the first line that shows a common point.
+/// Checks on the next lines of `trail` that the two lots of each of `pairs` share no point, in order. A lot of a pair
+/// is an index of `forms`. Only pairs of parts whose boxes share more than boundary are tested, and no test is counted.
+/// `TakenWrong` at the first line that shows a common point.
 pub(crate) fn show_apart_in_turn(
     forms: &[Form],
     pairs: &[Pair],
@@ -55,7 +55,7 @@ pub(crate) fn show_apart_in_turn(
     Ok(())
 }
 
-/// Appends an answer to others.
+/// Appends `meets` to `met`.
 fn put(met: &mut Vec<bool>, meets: bool) -> Result<(), AllocError>
     ensures { OnOk result (met.new.items ≡ met.old.items ++ meets ∷ []) }
 {
@@ -63,8 +63,8 @@ fn put(met: &mut Vec<bool>, meets: bool) -> Result<(), AllocError>
     Ok(())
 }
 
-/// Returns whether two forms meet, on the next lines. Only those pairs of parts are tested whose boxes let them;
-/// nothing is counted.
+/// Returns whether two forms meet, as `reach` says, on the next lines. Only pairs of parts whose boxes let them meet
+/// are tested, and no test is counted.
 fn do_meet(
     first: &Form,
     second: &Form,

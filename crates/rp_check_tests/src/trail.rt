@@ -18,7 +18,7 @@ const WEST: IntBox = IntBox {
     hi: [10, 10, 10],
 };
 
-/// A box that has a part in common with the first one.
+/// A box that shares points with `WEST`.
 const MIDDLE: IntBox = IntBox {
     lo: [4, 2, 2],
     hi: [12, 8, 8],
@@ -66,7 +66,7 @@ fn a_test_takes_a_line_that_passes(rt: HostRuntime) {
     assert_eq!(rt; trail.number(), 3);
 }
 
-/// The half-spaces of the first box and one that adds nothing.
+/// Returns the half-spaces of `WEST` and one that adds nothing.
 fn loose_box(rt: &impl Abort, alloc: Global) -> Halves
     ensures { length result.items ≤ 64 }
 {
@@ -98,7 +98,7 @@ fn a_part_test_drops_what_adds_nothing(rt: HostRuntime) {
     assert_eq!(rt; part.copy(rt.alloc()).expect(&rt, "no memory").bounds, WEST);
 }
 
-/// The form of a box, by a part test.
+/// Returns the form of a box, by a part test.
 fn box_form(rt: &impl Abort, alloc: Global, bounds: &IntBox, trail: &mut Trail<'_>) -> Form
     requires { is_box_in_bounds (integer_box bounds.now) ≡ true }
 {
@@ -110,7 +110,7 @@ fn box_form(rt: &impl Abort, alloc: Global, bounds: &IntBox, trail: &mut Trail<'
     form
 }
 
-/// The forms of the first box and of another one.
+/// Returns the forms of `WEST` and of `second`.
 fn two_boxes(rt: &impl Abort, alloc: Global, second: &IntBox, trail: &mut Trail<'_>) -> (Form, Form)
     requires { is_box_in_bounds (integer_box second.now) ≡ true }
 {
@@ -181,7 +181,7 @@ const SQUARE: [Corner; 4] = [
     Corner { x: 0, y: 10 },
 ];
 
-/// The form of the square, raised from 0 to 10, and the number of the next line then.
+/// Returns the form of the square, raised from 0 to 10, and the number of the next line after it.
 fn raised_square(alloc: Global, report: &[u8]) -> (Result<Form, Stopped>, u32)
     requires { length report.now ≤ most_report_bytes }
 {

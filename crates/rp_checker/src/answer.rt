@@ -1,4 +1,4 @@
-//! Whole answers of a report, and what each changes.
+//! The check of whole answers of a report, and the change of each.
 ghost use Rattle.std.specs.Prelude.{◌≡◌, ◌+◌, ◌<◌, ◌∷◌, [], ℕ, false, Ok, length, map, IfOk, is_none, option_map};
 ghost use Rattle.std.specs.List.{AllByRecursion};
 ghost use Rattle.rp_command.specs.Versions.{version_of};
@@ -32,8 +32,8 @@ use rp_text::read_echo;
 use rp_trail::{Form, Trail};
 use std::alloc::Global;
 
-/// What becomes of an answer whose row is stopped: the report may tell of a limit where one is met, and instead of a
-/// test, where the command can meet one.
+/// Follows an answer whose row is stopped. If `allowed`, the next line may report a limit, which the row met or which
+/// is in place of a test.
 fn follow_stopped(allowed: bool, stopped: Stopped, trail: &mut Trail<'_>) -> Result<(), Halt>
     ensures { (n : ℕ) (s : PlainState) (o : Outcome ModelTrail ModelReply) → StopsBy stopped trail.old o → Answers (λ _. s) result trail.new (follow_walk n s allowed o) }
 {
@@ -50,15 +50,14 @@ fn follow_stopped(allowed: bool, stopped: Stopped, trail: &mut Trail<'_>) -> Res
     }
 }
 
-/// The answer to a line that is no command, behind its echo.
+/// Follows the answer to a line that is no command, after its echo.
 fn follow_fault(alloc: Global, why: Why, trail: &mut Trail<'_>) -> Result<(), Halt>
     ensures { (s : PlainState) → Answers (λ _. s) result trail.new (follow_fault s (fault_of why) trail.old) }
 {
     follow_verdict(alloc, &Verdict::Refused(Refusal::Bad(why)), trail)
 }
 
-/// The answer to an echo, which is the next line, with a text that is no command. A text that is too long is wrong
-/// there.
+/// Follows the answer to an echo, the next line, whose text is no command. The line is wrong if its text is too long.
 fn follow_bad(alloc: Global, why: Why, trail: &mut Trail<'_>) -> Result<(), Halt>
     requires { 0 < length trail.old.lines }
     ensures { (n : ℕ) (s : PlainState) → Answers (λ _. s) result trail.new (follow_text n s (bad (fault_of why)) trail.old) }
@@ -72,8 +71,7 @@ fn follow_bad(alloc: Global, why: Why, trail: &mut Trail<'_>) -> Result<(), Halt
     }
 }
 
-/// Returns the echo that stands next: its number and its text. `None` where the next line is no echo, or where no line
-/// is left.
+/// Returns the echo in the next line: its number and its text. `None` if the next line is no echo, or no line is left.
 fn next_echo<'a>(trail: &Trail<'a>) -> Option<(u32, Option<&'a [u8]>)>
     ensures { option_map echo_with result ≡ next_echo trail.now.lines }
 {
@@ -84,14 +82,14 @@ fn next_echo<'a>(trail: &Trail<'a>) -> Option<(u32, Option<&'a [u8]>)>
     }
 }
 
-/// Returns whether all names and lots of an expression are there.
+/// Returns whether all names and lots of `region` are there.
 fn knows(register: &Register, region: &Expr) -> bool
     ensures { result ≡ is_none (first_unknown_among (parts_in register.now) (expression_of region.now ∷ [])) }
 {
     register.first_unknown(region).is_none()
 }
 
-/// Returns whether all names and lots of two expressions are there.
+/// Returns whether all names and lots of `a` and `b` are there.
 fn knows_both(register: &Register, a: &Expr, b: &Expr) -> bool
     ensures { result ≡ is_none (first_unknown_among (parts_in register.now) (expression_of a.now ∷ expression_of b.now ∷ [])) }
 {
@@ -110,8 +108,8 @@ fn knows_children(register: &Register, entries: &[(Name, Expr)]) -> bool
     true
 }
 
-/// Returns whether the report may tell of a limit in place of the first verdict line of a command: the command can meet
-/// one, and all names and lots of its expressions are there.
+/// Returns whether the report may have a limit in place of the first verdict line of `command`. It may if the command
+/// can meet a limit, and all names and lots of its expressions are there.
 fn limit_allowed(register: &Register, command: &Command) -> bool
     ensures { result ≡ limit_allowed register.now (command_of command.now) }
 {
@@ -143,8 +141,8 @@ fn limit_allowed(register: &Register, command: &Command) -> bool
     }
 }
 
-/// Takes the verdict lines of a reply, and then makes its change; or takes a line that tells of a limit in their place,
-/// which changes nothing.
+/// Takes the verdict lines of a reply, and then makes its change. If `allowed`, it takes instead a line that reports a
+/// limit, and changes nothing.
 fn follow_reply(
     alloc: Global,
     register: &mut Register,
@@ -164,7 +162,7 @@ fn follow_reply(
     follow_shown(alloc, register, n, followed, trail)
 }
 
-/// Takes the verdict lines of a reply, where no limit is told in their place, and then makes its change.
+/// Takes the verdict lines of a reply without a limit in their place, and then makes its change.
 fn follow_shown(
     alloc: Global,
     register: &mut Register,
@@ -205,7 +203,7 @@ fn follow_change(
     Ok(())
 }
 
-/// The rest of an answer, once the row of its command was followed.
+/// Follows the rest of an answer, after the row of its command.
 fn follow_row(
     alloc: Global,
     register: &mut Register,
@@ -230,7 +228,7 @@ fn follow_row(
     }
 }
 
-/// The answer to a command, behind its echo.
+/// Follows the answer to `command`, after its echo.
 fn follow_command(
     alloc: Global,
     register: &mut Register,
@@ -250,8 +248,8 @@ fn follow_command(
     follow_row(alloc, register, n, allowed, row, trail)
 }
 
-/// The answer to an echo, which is the next line, with a text that reads so. A text that is blank or too long is wrong
-/// there.
+/// Follows the answer to an echo, the next line, whose text reads as `line`. The echo is wrong if its text is blank or
+/// too long.
 fn follow_read(
     alloc: Global,
     register: &mut Register,
@@ -274,8 +272,8 @@ fn follow_read(
     }
 }
 
-/// The answer to an echo with a text, which is the next line, and is read by the version. A text that is blank or too
-/// long is wrong there.
+/// Follows the answer to an echo, the next line, with `text`, which is read in `version`. The echo is wrong if its text
+/// is blank or too long.
 fn follow_text(
     alloc: Global,
     register: &mut Register,
@@ -294,7 +292,7 @@ fn follow_text(
     followed
 }
 
-/// The answer to an echo, which is the next line, with its text or without one.
+/// Follows the answer to an echo, the next line, with or without `text`.
 fn follow_echo(
     alloc: Global,
     register: &mut Register,
@@ -316,9 +314,12 @@ fn follow_echo(
     }
 }
 
-/// Takes the lines of the next answer, whose number must be above `last` and whose text is read by the version, and
-/// makes its change. Answers its number.
-/// `Wrong` with the number of the first line that doesn't fit.
+/// Takes the lines of the next answer, whose number must be above `last` and whose text is read in `version`, and makes
+/// its change. Returns its number.
+///
+/// # Errors
+///
+/// `Wrong` with the number of the first line that does not fit; `Memory` if memory runs out.
 pub(crate) fn follow_answer(
     alloc: Global,
     register: &mut Register,

@@ -1,15 +1,16 @@
-//! Why no further answer of a report is read.
+//! The reasons why no further answer of a report is read.
 
 use std::alloc::AllocError;
 use thiserror::Error;
 
-/// Why no further answer of a report is read. The trail and the register aren't used further.
+/// The reason why no further answer of a report is read. The trail and the register are not used afterwards.
 #[derive(Clone, Copy, Debug, Drop, Error)]
 pub(crate) enum Halt {
-    /// The line of this number is wrong, or no line is left where one is due: then it is the number of lines plus 1.
+    /// The line with this number is wrong, or no line is left where one is due. The number is then the number of lines
+    /// plus 1.
     #[error("line {0} is wrong")]
     Wrong(u32),
-    /// There was no memory.
+    /// Memory ran out.
     #[error("out of memory")]
     Memory(AllocError),
 }

@@ -1,9 +1,9 @@
 #![tactic(auto)]
-//! Reads a report by itself: whether it is one that is accepted, and else which line is the first wrong one.
+//! The check of a report on its own: whether it is accepted, and otherwise which line is the first wrong one.
 //!
-//! What [`check_report`] finds is what the definition finds, line by line; the echoes are read by the version of the
-//! report's mark. What is accepted is a true report, and every report of a script is accepted. Certificates are checked
-//! and never searched for: the crate stands on none that searches for one.
+//! [`check_report`] finds what the definition finds, line by line. The echoes are read in the version of the report's
+//! mark. An accepted report is true, and every report of a script is accepted. Certificates are checked and never
+//! searched for: the crate depends on no crate that searches for one.
 
 mod answer;
 mod halt;

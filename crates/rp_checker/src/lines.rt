@@ -12,7 +12,7 @@ use rp_text::write_verdict;
 use rp_trail::Trail;
 use std::alloc::Global;
 
-/// Takes the next line, which must be the one that is wanted.
+/// Takes the next line, which must be `want`.
 fn follow_line(want: &[u8], trail: &mut Trail<'_>) -> Result<(), Halt>
     ensures { Answers (λ x. x) result trail.new (follow_line want.now trail.old.lines trail.old) }
 {
@@ -27,7 +27,7 @@ fn follow_line(want: &[u8], trail: &mut Trail<'_>) -> Result<(), Halt>
     Ok(())
 }
 
-/// Takes the next lines, which must be those of the verdicts.
+/// Takes the next lines, which must be those of `verdicts`.
 pub(crate) fn follow_verdicts(
     alloc: Global,
     verdicts: &[Verdict],
@@ -44,7 +44,7 @@ pub(crate) fn follow_verdicts(
     Ok(())
 }
 
-/// Takes the next line, which must be that of the verdict.
+/// Takes the next line, which must be that of `verdict`.
 pub(crate) fn follow_verdict(
     alloc: Global,
     verdict: &Verdict,
@@ -57,7 +57,7 @@ pub(crate) fn follow_verdict(
     follow_line(&text, trail)
 }
 
-/// Takes the next line, which must tell of a limit.
+/// Takes the next line, which must report a limit.
 pub(crate) fn follow_limit(trail: &mut Trail<'_>) -> Result<(), Halt>
     ensures answers { (s : PlainState) → Answers (λ _. s) result trail.new (follow_limit s trail.old) }
 {

@@ -18,18 +18,18 @@ use rp_text::REPORT_MARK;
 use rp_trail::Trail;
 use std::alloc::{AllocError, Global};
 
-/// What the check of a report finds.
+/// The result of the check of a report.
 #[derive(Clone, Copy, Debug, PartialEq, Eq)]
 pub enum Found {
     /// The report is accepted.
     Accepted,
-    /// The line of this number, from 1, is the first at which no accepted report goes on; it is one more than the
-    /// number of lines where every line fits and the report breaks off.
+    /// The line with this number, from 1, is the first at which no accepted report continues. If every line fits and
+    /// the report breaks off, this is the number of lines plus 1.
     Wrong(u32),
 }
 
-/// Returns the version of a report, of which nothing was taken yet, by its first line, which is taken where it is the
-/// mark.
+/// Returns the version of a report of which no line was taken yet. If the first line is the mark of version 2, it is
+/// taken.
 fn take_mark(trail: &mut Trail<'_>) -> Version
     ensures version { version_of result ≡ version_by report_mark trail.old.lines }
     ensures behind { trail.new ≡ behind_mark (version_of result) trail.old }
@@ -44,13 +44,16 @@ fn take_mark(trail: &mut Trail<'_>) -> Version
     Version::One
 }
 
-/// Returns whether a report of at most 67,108,864 bytes is accepted, and else which of its lines is the first wrong
-/// one. Nothing is searched for: each certificate that the report shows is checked, and every verdict must be the one
-/// that follows from those that pass. Where the first line is exactly `> 0 rp 2`, it is no answer, and the echoed lines
-/// are read by version 2; else they are read by version 1. What is accepted is true of the regions that the echoed
-/// commands give, whoever wrote it; and the report of every script is accepted.
+/// Checks `report`, of at most 67,108,864 bytes. Returns whether it is accepted, and otherwise its first wrong line.
 ///
-/// Answers `AllocError` only for want of memory.
+/// No certificate is searched for: each certificate of the report is checked, and every verdict must follow from those
+/// that pass. If the first line is exactly `> 0 rp 2`, it is no answer, and the echoed lines are read in version 2;
+/// otherwise in version 1. An accepted report is true of the regions that the echoed commands give, whoever wrote it.
+/// The report of every script is accepted.
+///
+/// # Errors
+///
+/// `AllocError` if memory runs out.
 pub fn check_report(alloc: Global, report: &[u8]) -> Result<Found, AllocError>
     requires { length report.now ≤ most_report_bytes }
     ensures found { IfOk result (λ found. found_of found ≡ finding (report_lines report.now)) }
@@ -63,11 +66,11 @@ pub fn check_report(alloc: Global, report: &[u8]) -> Result<Found, AllocError>
     found
 }
 
-/// Checks `report` as [`check_report`] does, with `register`, in which nothing is kept yet, and leaves there what the
-/// answers kept.
+/// Checks `report` as [`check_report`] does, and stores in `register`, which is empty at first, what the answers store.
 ///
 /// # Errors
-/// `AllocError` only for want of memory.
+///
+/// `AllocError` if memory runs out.
 pub fn check_report_in(
     alloc: Global,
     register: &mut Register,

@@ -23,7 +23,8 @@ fn told(asked: Result<Verdicts, RowEnd>) -> Result<Followed, RowEnd>
     Ok(Followed::Replied(Reply::Told(asked?)))
 }
 
-/// Follows the row of a command on the next lines: what it comes to, or why it has no reply. Nothing is changed yet.
+/// Follows the row of `command` on the next lines. Returns its result, or the reason why it has no reply. Nothing is
+/// changed yet.
 pub(crate) fn carried_out(
     alloc: Global,
     register: &Register,

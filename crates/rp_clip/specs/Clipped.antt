@@ -1,4 +1,4 @@
--- Cells with their vertices, as contracts see them, and what is true of each.
+-- Cells with their vertices, as a contract sees them, and the invariants of each.
 use Rattle.std.specs.Prelude.{ℕ, ◌≤◌, List, length}
 use Rattle.std.specs.List.{Contains}
 use Rattle.rp_geometry.specs.Geometry.{RationalPoint, HalfSpace}
@@ -11,11 +11,11 @@ pub record Clipped : Type 0 where
   pub halves : List HalfSpace
   pub points : List RationalPoint
 
--- the half-spaces and the points of these values
+-- the cell with the given half-spaces and points
 abbrev pub clipped : List HalfSpace → List RationalPoint → Clipped
 clipped halves points = record { halves = halves; points = points }
 
--- at most 64 half-spaces, and a table of exactly the vertices, with room for so many
+-- at most 64 half-spaces, and a table of exactly the vertices, with room for the given number
 pub record HasVertices (most : ℕ) (cell : List HalfSpace) (t : Rows) : Type 0 where
   pub few : length cell ≤ 64
   pub bounds : AreHalfSpaces cell

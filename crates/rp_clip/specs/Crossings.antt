@@ -1,4 +1,4 @@
--- The points at which a further half-space's plane crosses the edges of a cell, as a table of them is filled.
+-- The points at which the plane of a further half-space crosses the edges of a cell, as a table of them is filled.
 use Rattle.std.specs.Prelude.{◌≡◌, ℕ, ◌<◌, Bool, true, false, pos, ◌≤ℤ◌, ◌<ℤ◌, List, [], ◌∷◌, ◌++◌, length, map, bit_and, Some}
 use Rattle.std.specs.List.{Contains}
 use Rattle.rp_geometry.specs.Geometry.{RationalPoint, HalfSpace, side_value}
@@ -10,17 +10,17 @@ use Rattle.rp_clip.specs.Sides.{side_of}
 use Rattle.rp_clip.specs.declared.cross.Side.{Side}
 use Rattle.rp_clip.specs.declared.cross.Side.TheVariants.{Above}
 
--- the table of a cell's vertices, and on which side of the plane of a further half-space each lies
+-- the table of a cell's vertices, and the side of the plane of a further half-space on which each is
 pub record HasSides (most : ℕ) (cell : List HalfSpace) (h : HalfSpace) (t : Rows) (sides : List Side) : Type 0 where
   pub table : IsTable most cell t
   pub each : sides ≡ map (side_of h) t.points
   pub room : length cell < 64
 
--- the set is that of a vertex at which the half-space is positive
+-- the set is that of the planes through a vertex at which the half-space is positive
 abbrev pub IsAbove : List HalfSpace → HalfSpace → ℕ → Type 0
 IsAbove cell h set = (u : RationalPoint) × Contains (vertices cell) u × (pos 0 <ℤ side_value h u) × (set ≡ mask_of cell u)
 
--- the set is that of a vertex at which the half-space is negative
+-- the set is that of the planes through a vertex at which the half-space is negative
 abbrev pub IsBelow : List HalfSpace → HalfSpace → ℕ → Type 0
 IsBelow cell h set = (w : RationalPoint) × Contains (vertices cell) w × (side_value h w <ℤ pos 0) × (set ≡ mask_of cell w)
 
@@ -29,7 +29,7 @@ pub record AreAllBelow (cell : List HalfSpace) (h : HalfSpace) (t : Rows) (sets 
   pub each : (set : ℕ) → Contains sets set → IsBelow cell h set
   pub all : (w : RationalPoint) → Contains t.points w → side_value h w <ℤ pos 0 → Contains sets (mask_of cell w)
 
--- the set is that of the planes through two vertices, where the half-space is positive at the one and negative at the other
+-- the set is that of the planes through two vertices; the half-space is positive at one and negative at the other
 pub record IsBetween (cell : List HalfSpace) (h : HalfSpace) (set : ℕ) : Type 0 where
   pub room : length cell < 64
   pub above : RationalPoint
@@ -40,40 +40,40 @@ pub record IsBetween (cell : List HalfSpace) (h : HalfSpace) (set : ℕ) : Type 
   pub negative : side_value h below <ℤ pos 0
   pub common : set ≡ bit_and (mask_of cell above) (mask_of cell below)
 
--- each point in which two planes of the set meet that of h stands in the table
+-- each point in which two planes of the set meet the plane of h is in the table
 abbrev pub HasMeetings : List HalfSpace → HalfSpace → ℕ → Rows → Type 0
 HasMeetings cell h set t = (i j : ℕ) (f g : HalfSpace) (v : RationalPoint) → ArePlaces cell set 0 i j f g → meeting_point f g h ≡ Some v → Contains t.points v
 
--- the same of the planes that a vertex at which h is positive has in common with each of the list at which it is negative
+-- the table has these points for the planes that a vertex above h shares with each vertex of the list below h
 abbrev pub HasMeetingsOf : List HalfSpace → HalfSpace → RationalPoint → List RationalPoint → Rows → Type 0
 HasMeetingsOf cell h u points t =
     pos 0 <ℤ side_value h u → (w : RationalPoint) → Contains points w → side_value h w <ℤ pos 0 → HasMeetings cell h (bit_and (mask_of cell u) (mask_of cell w)) t
 
--- the list of a cell with one more half-space
+-- the half-spaces of a cell and one more
 abbrev pub with_one : List HalfSpace → HalfSpace → List HalfSpace
 with_one cell h = cell ++ h ∷ []
 
--- a table of the cell with one more half-space, with all points of before
+-- the new table is one of the cell with one more half-space, and has all points of the old table
 pub record IsGrown (most : ℕ) (cell : List HalfSpace) (h : HalfSpace) (old new : Rows) : Type 0 where
   pub table : IsTable most (with_one cell h) new
   pub all : HasAllOf old new
 
--- what it means that the crossings of one set were put into a table
+-- the result of adding the crossings of one set to a table
 abbrev pub IsCrossed : ℕ → List HalfSpace → HalfSpace → ℕ → Rows → Rows → Bool → Type 0
 IsCrossed most cell h set old new true = IsGrown most cell h old new × HasMeetings cell h set new
 IsCrossed most cell h set old new false = HasMoreVertices most (with_one cell h)
 
--- what it means that the crossings from one vertex to those of the sets below were
+-- the result of adding the crossings from one vertex to those of the sets below
 abbrev pub IsCrossedFrom : ℕ → List HalfSpace → HalfSpace → List ℕ → ℕ → Rows → Rows → Bool → Type 0
 IsCrossedFrom most cell h below set old new true = IsGrown most cell h old new × ((low : ℕ) → Contains below low → HasMeetings cell h (bit_and set low) new)
 IsCrossedFrom most cell h below set old new false = HasMoreVertices most (with_one cell h)
 
--- the same of a vertex, if it is above
+-- the result of adding the crossings from a vertex to those of the sets below, if the vertex is above
 abbrev pub IsCrossedAbove : ℕ → List HalfSpace → HalfSpace → List ℕ → Side → ℕ → Rows → Rows → Bool → Type 0
 IsCrossedAbove most cell h below side set old new true = IsGrown most cell h old new × (side ≡ Above → (low : ℕ) → Contains below low → HasMeetings cell h (bit_and set low) new)
 IsCrossedAbove most cell h below side set old new false = HasMoreVertices most (with_one cell h)
 
--- what it means that all crossings were
+-- the result of adding all crossings
 abbrev pub IsCrossedAll : ℕ → List HalfSpace → HalfSpace → List RationalPoint → Rows → Rows → Bool → Type 0
 IsCrossedAll most cell h points old new true = IsGrown most cell h old new × ((u : RationalPoint) → Contains points u → HasMeetingsOf cell h u points new)
 IsCrossedAll most cell h points old new false = HasMoreVertices most (with_one cell h)

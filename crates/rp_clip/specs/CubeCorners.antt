@@ -2,7 +2,7 @@
 use Rattle.std.specs.Prelude.{Bool, true, false, ℤ, pos, neg_ℤ, cond, List, [], ◌∷◌}
 use Rattle.rp_geometry.specs.Geometry.{RationalPoint, point_of, cube_bound}
 
--- the lower or the upper edge
+-- the lower or the upper edge of the cube, as a coordinate
 abbrev pub edge_of : Bool → ℤ
 edge_of is_upper = cond is_upper cube_bound (neg_ℤ cube_bound)
 

@@ -1,18 +1,18 @@
--- The planes that all vertices of a cell have in common, or those of one of its faces.
+-- The planes that all vertices of a cell, or of one of its faces, have in common.
 use Rattle.std.specs.Prelude.{◌≡◌, ℕ, ◌+◌, cond, nat_eq, pos, ◌<ℤ◌, List, [], ◌∷◌, ◌++◌, take, drop, Some, bit_and}
 use Rattle.std.specs.List.{Contains, slice_get}
 use Rattle.rp_geometry.specs.Geometry.{RationalPoint, HalfSpace, IsPoint, side_value, cube_half_spaces}
 
--- the places in common so far, and with one mask more, if it has all places of the set
+-- the common places so far and of one more mask, if the mask has all places of the set
 abbrev pub common_with : ℕ → ℕ → ℕ → ℕ
 common_with set common mask = cond (nat_eq (bit_and mask set) set) (bit_and common mask) common
 
--- the places in common so far, and with the masks of a list that have all places of the set
+-- the common places so far and of the masks of a list that have all places of the set
 abbrev pub common_of : ℕ → ℕ → List ℕ → ℕ
 common_of set common [] = common
 common_of set common (mask ∷ masks) = common_of set (common_with set common mask) masks
 
--- the half-space at the place has a side of its own: a point of its plane lies strictly inside all others of the list
+-- the half-space at the place has a side of its own: a point of its plane is strictly inside all others of the list
 pub record HasSide (cell : List HalfSpace) (place : ℕ) : Type 0 where
   pub half : HalfSpace
   pub at : slice_get cell place ≡ Some half

@@ -5,7 +5,7 @@ use Rattle.rp_algebra.specs.Integer.{is_zero}
 use Rattle.rp_geometry.specs.Geometry.{RationalPoint, HalfSpace, side_value, cube_half_spaces}
 use Rattle.rp_space.specs.Places.{bits_of, IsIn}
 
--- the half-space at a place: one of the cell below 64, one of the cube from there on
+-- the half-space at a place: of the cell below 64, of the cube from 64 on
 unfoldable pub half_at : List HalfSpace → ℕ → Option HalfSpace
 half_at cell place = cond (nat_lt place 64) (slice_get cell place) (slice_get cube_half_spaces (place - 64))
 

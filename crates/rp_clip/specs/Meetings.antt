@@ -18,11 +18,11 @@ pub record ArePlaces (cell : List HalfSpace) (set from i j : ℕ) (f g : HalfSpa
   pub first : half_at cell i ≡ Some f
   pub second : half_at cell j ≡ Some g
 
--- two places are before two others: at the first at which they differ, they have the smaller one
+-- the first two places come before the other two: they are smaller at the first at which they differ
 abbrev pub AreBefore : ℕ → ℕ → ℕ → ℕ → Type 0
 AreBefore i j k l = (i < k) ⊎ ((i ≡ k) × (j < l))
 
--- two places whose planes meet that of h in the point that is given
+-- two places of the set whose planes meet the plane of h in the given point
 pub record IsMet (cell : List HalfSpace) (set from : ℕ) (h : HalfSpace) (m : Met) : Type 0 where
   pub one : HalfSpace
   pub two : HalfSpace
@@ -30,26 +30,26 @@ pub record IsMet (cell : List HalfSpace) (set from : ℕ) (h : HalfSpace) (m : M
   pub point : IsPoint m.at
   pub at : Some (reduced_point m.at) ≡ meeting_point one two h
 
--- no two of the places have planes that meet that of h in one point
+-- no two places of the set have planes that meet the plane of h in one point
 abbrev pub MeetNowhere : List HalfSpace → ℕ → ℕ → HalfSpace → Type 0
 MeetNowhere cell set from h = (i j : ℕ) (f g : HalfSpace) → ArePlaces cell set from i j f g → meeting_point f g h ≡ None
 
--- the first two places whose planes do
+-- the first two places of the set whose planes meet the plane of h in one point
 pub record IsFirstMet (cell : List HalfSpace) (set from : ℕ) (h : HalfSpace) (m : Met) : Type 0 where
   pub met : IsMet cell set from h m
   pub earlier : (i j : ℕ) (f g : HalfSpace) → ArePlaces cell set from i j f g → AreBefore i j m.first m.second → meeting_point f g h ≡ None
 
--- the first place behind a first one whose planes do
+-- the first place after a given first one whose plane meets that plane and the plane of h in one point
 pub record IsFirstMetWith (cell : List HalfSpace) (set first : ℕ) (h : HalfSpace) (m : Met) : Type 0 where
   pub is_first : m.first ≡ first
   pub met : IsMet cell set first h m
   pub earlier : (j : ℕ) (f g : HalfSpace) → ArePlaces cell set first first j f g → j < m.second → meeting_point f g h ≡ None
 
--- no place behind a first one has a plane that meets that one's and that of h in one point
+-- no place after a given first one has a plane that meets that plane and the plane of h in one point
 abbrev pub MeetNowhereWith : List HalfSpace → ℕ → ℕ → HalfSpace → Type 0
 MeetNowhereWith cell set first h = (j : ℕ) (f g : HalfSpace) → ArePlaces cell set first first j f g → meeting_point f g h ≡ None
 
--- the first three places of a set whose planes meet in one point: the lowest of the set, and the first two behind it that do with it
+-- the first three places of a set whose planes meet in one point: the lowest, and the first two after it whose planes meet its plane in one point
 pub record IsFirstOfSet (cell : List HalfSpace) (set : ℕ) (b : Basis) : Type 0 where
   pub lowest : IsLowestFrom set 0 b.first
   pub one : HalfSpace
@@ -60,7 +60,7 @@ pub record IsFirstOfSet (cell : List HalfSpace) (set : ℕ) (b : Basis) : Type 0
   pub meets : IsSome (meeting_point two three one)
   pub earlier : (i j : ℕ) (f g : HalfSpace) → ArePlaces cell set (b.first + 1) i j f g → AreBefore i j b.second b.third → meeting_point f g one ≡ None
 
--- no two planes of the set meet that of the lowest place in one point
+-- no two planes of the set meet the plane of the lowest place in one point
 abbrev pub HasNoBasis : List HalfSpace → ℕ → Type 0
 HasNoBasis cell set = (place : ℕ) (one : HalfSpace) → IsLowestFrom set 0 place → half_at cell place ≡ Some one → MeetNowhere cell set (place + 1) one
 

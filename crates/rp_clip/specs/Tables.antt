@@ -5,20 +5,20 @@ use Rattle.rp_geometry.specs.Geometry.{RationalPoint, HalfSpace}
 use Rattle.rp_geometry.specs.searches.Vertex.{vertices}
 use Rattle.rp_clip.specs.Masks.{mask_of}
 
--- points, and beside each the places of the planes through it
+-- points, and for each the places of the planes through it
 pub record Rows : Type 0 where
   pub points : List RationalPoint
   pub planes : List ℕ
 
--- the rows of these lists
+-- the table with the given points and places
 abbrev pub rows_of : List RationalPoint → List ℕ → Rows
 rows_of points planes = record { points = points; planes = planes }
 
--- the one of two tables that counts
+-- the second of two tables, if the flag is true; otherwise the first
 abbrev pub counting : Bool → Rows → Rows → Rows
 counting is_second first second = cond is_second second first
 
--- no item stands twice
+-- no item occurs twice
 abbrev pub AreDistinct : {A : Type 0} → List A → Type 0
 AreDistinct [] = Unit {0}
 AreDistinct (x ∷ xs) = (¬ Contains xs x) × AreDistinct xs
@@ -33,17 +33,17 @@ pub record AreVertices (cell : List HalfSpace) (points : List RationalPoint) : T
   pub distinct : AreDistinct points
   pub exact : (v : RationalPoint) → Contains points v ↔ Contains (vertices cell) v
 
--- the cell has more vertices than a number
+-- the cell has more than n vertices
 abbrev pub HasMoreVertices : ℕ → List HalfSpace → Type 0
 HasMoreVertices n cell = (points : List RationalPoint) × AreDifferentVertices cell points × (n < length points)
 
--- a table of different vertices of a cell, of at most so many, beside each the places of the planes through it
+-- a table of different vertices of a cell, at most the given number, and for each the places of the planes through it
 pub record IsTable (most : ℕ) (cell : List HalfSpace) (t : Rows) : Type 0 where
   pub different : AreDifferentVertices cell t.points
   pub planes : t.planes ≡ map (mask_of cell) t.points
   pub fits : length t.points ≤ most
 
--- a table with all points of another
+-- the new table has all points of the old one
 abbrev pub HasAllOf : Rows → Rows → Type 0
 HasAllOf old new = (v : RationalPoint) → Contains old.points v → Contains new.points v
 

@@ -1,4 +1,4 @@
--- Vertices that are taken one after the other: each is the first that is not on all planes through those before.
+-- Vertices found one after another: each is the first that is not on all planes through those before.
 use Rattle.std.specs.Prelude.{◌≡◌, ℕ, ◌-◌, ◌^◌, true, List, [], ◌∷◌, Some, bit_and}
 use Rattle.rp_geometry.specs.Geometry.{RationalPoint, HalfSpace, with_cube}
 use Rattle.rp_geometry.specs.searches.Vertex.{first_vertex}
@@ -6,25 +6,25 @@ use Rattle.rp_clip.specs.Firsts.{is_off, HasFirst}
 use Rattle.rp_clip.specs.Masks.{mask_of}
 use Rattle.rp_clip.specs.Tables.{Rows}
 
--- what is left of a set, where only planes through all points of a list stay
+-- the places of a set whose planes pass through all points of a list
 abbrev pub left_of : List HalfSpace → ℕ → List RationalPoint → ℕ
 left_of cell set [] = set
 left_of cell set (p ∷ ps) = left_of cell (bit_and set (mask_of cell p)) ps
 
--- each point is the first vertex that is not on all planes of what the points before leave of a set
+-- each point is the first vertex that is not on all planes of the set that pass through the points before
 abbrev pub AreTaken : List HalfSpace → ℕ → List RationalPoint → Type 0
 AreTaken cell set [] = Unit {0}
 AreTaken cell set (p ∷ ps) = (first_vertex (is_off cell set) (with_cube cell) ≡ Some p) × AreTaken cell (bit_and set (mask_of cell p)) ps
 
--- the points were taken one after the other, and the set has the planes through all of them
+-- the points were found one after another, and the set has the planes through all of them
 pub record IsTakenTo (cell : List HalfSpace) (set : ℕ) (points : List RationalPoint) : Type 0 where
   pub taken : AreTaken cell (2 ^ 128 - 1) points
   pub left : set ≡ left_of cell (2 ^ 128 - 1) points
 
--- what is off the one set is off the other
+-- every point off the first set is off the second
 abbrev pub IsWithin : List HalfSpace → ℕ → ℕ → Type 0
 IsWithin cell less set = (p : RationalPoint) → is_off cell less p ≡ true → is_off cell set p ≡ true
 
--- a table that has the first vertex off the set, and off each that comes of it, if it has any that is
+-- a table with the first vertex off the set, and off each set within it, if there is one
 abbrev pub HasFirsts : ℕ → List HalfSpace → ℕ → Rows → Type 0
 HasFirsts most cell set t = (less : ℕ) → IsWithin cell less set → HasFirst most cell less t

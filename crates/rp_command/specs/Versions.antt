@@ -1,4 +1,4 @@
--- Versions of the code as those of the grammar.
+-- The versions of the code as those of the grammar.
 use Rattle.rp_language.specs.Grammar.{Version as ModelVersion, one, two}
 use Rattle.rp_command.specs.declared.version.Version.{Version}
 use Rattle.rp_command.specs.declared.version.Version.TheVariants.{One, Two}

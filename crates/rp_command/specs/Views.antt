@@ -1,4 +1,4 @@
--- Commands of the code as those of the model.
+-- The commands of the code as those of the model.
 use Rattle.std.specs.Prelude.{List, ℕ, map}
 use Rattle.rp_language.specs.Name.{Label}
 use Rattle.rp_language.specs.Expression.{Expression, Child, Command as ModelCommand, define, ask_member, ask_empty, ask_pieces, ask_show, ask_equal, ask_within, ask_overlap, ask_contact, ask_relation, register, cut, subdivide, consolidate, retire, ask_neighbours, ask_history, ask_at, ask_as_of, ask_audit, ask_list, set_layer, ask_section, ask_access}
@@ -14,7 +14,7 @@ use Rattle.rp_command.specs.declared.command.Why.TheVariants.{Syntax, Range, Zer
 use Rattle.rp_command.specs.declared.command.Line.{Line}
 use Rattle.rp_command.specs.declared.command.Line.TheVariants.{Blank, Cmd, Bad}
 
--- the expression of the model
+-- the expression of the model for an expression of the code
 abbrev pub expression_of : Expr → Expression
 expression_of (Half h) = Expression.half_space h
 expression_of (Block b) = Expression.box (integer_box b)
@@ -28,15 +28,15 @@ expression_of (Or' p e q f) = Expression.union (expression_of e) (expression_of 
 expression_of (Minus' p e q f) = Expression.difference (expression_of e) (expression_of f)
 expression_of (Not' p e) = Expression.complement (expression_of e)
 
--- the child of the model
+-- the child of the model for an entry of the code
 abbrev pub child_of : List ℕ × Expr → Child
 child_of entry = record { id = entry.0; shape = expression_of entry.1 }
 
--- the expressions of some entries
+-- the expressions of the model for some entries of the code
 abbrev pub shapes_of : List (Label × Expr) → List Expression
 shapes_of entries = map (λ e. expression_of e.1) entries
 
--- the command of the model
+-- the command of the model for a command of the code
 abbrev pub command_of : Command → ModelCommand
 command_of (commands.Let x e) = define x (expression_of e)
 command_of (commands.Member e p) = ask_member (expression_of e) p
@@ -63,7 +63,7 @@ command_of (commands.Layer x) = set_layer x
 command_of (commands.Section e z) = ask_section (expression_of e) z
 command_of (commands.Access x y) = ask_access x y
 
--- the fault of the grammar
+-- the fault of the grammar for a fault of the code
 abbrev pub fault_of : Why → Fault
 fault_of Syntax = bad_syntax
 fault_of Range = out_of_range
@@ -71,7 +71,7 @@ fault_of Zero = zero_half_space
 fault_of Nodes = too_many_nodes
 fault_of Long = too_long
 
--- what the line reads as
+-- the reading of the model for a line of the code
 abbrev pub line_of : Line → Reading
 line_of Blank = blank
 line_of (Cmd c) = command (command_of c)

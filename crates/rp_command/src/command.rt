@@ -53,7 +53,7 @@ pub enum Command {
     Overlap(Expr, Expr),
     /// Whether the closures of two regions share a point.
     Contact(Expr, Expr),
-    /// Which of the eight relations of the region connection calculus two regions stand in (Randell, Cui and Cohn).
+    /// Which of the eight relations of the region connection calculus two regions have (Randell, Cui and Cohn).
     Rcc(Expr, Expr),
     /// Registers a lot.
     Register(Name, Expr),
@@ -85,8 +85,8 @@ pub enum Command {
     Access(Name, Name),
 }
 
-// A derived drop stands in line, with the variants of each expression, in every function that holds a command or a
-// line; this one is a call there.
+// A derived drop is inlined, with the variants of each expression, in every function that has a command or a line; this
+// one is a call there.
 impl Drop for Command {
     fn drop(self) {
         match self {
@@ -133,10 +133,10 @@ impl Drop for Command {
     }
 }
 
-/// Why a line is no command: its first fault in reading order.
+/// The reason why a line is no command: its first fault in reading order.
 #[derive(Clone, Copy, Debug)]
 pub enum Why {
-    /// A word that doesn't fit its place, a missing word or one too many.
+    /// A word that does not fit its place, a missing word or one too many.
     Syntax,
     /// A number outside the bounds of its place.
     Range,
@@ -148,7 +148,7 @@ pub enum Why {
     Long,
 }
 
-/// What a line reads as.
+/// The result of reading a line.
 #[derive(Drop)]
 pub enum Line {
     /// The line is empty or a note.

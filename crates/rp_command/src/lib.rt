@@ -1,9 +1,9 @@
 #![tactic(auto)]
 //! Commands as values, the versions of scripts, and numbers as words spell them.
 //!
-//! What a line reads as ([`Line`]), which `rp_syntax` reads and `rp_spelling` spells; rows and reports want no more
-//! than these values. [`coordinate`] and [`spelled`] answer the number that a word spells, held at 2^120 where its size
-//! passes that, and `None` exactly where it spells none.
+//! A line reads as a [`Line`]: `rp_syntax` reads one and `rp_spelling` spells one; rows and reports need no more than
+//! these values. [`coordinate`] and [`spelled`] return the number that a word spells, capped at 2^120 in size, and
+//! `None` iff it spells none.
 
 mod command;
 mod number;

@@ -8,10 +8,10 @@ ghost use Rattle.rp_language.specs.Grammar.{coordinate_spelled, fraction_spelled
 
 use crate::version::Version;
 
-/// Numbers are held at this size where they are greater; it passes the bound of every place.
+/// Numbers of a greater size are capped at this one, which exceeds the bound of every place.
 const HELD: u128 = 1329227995784915872903807060280344576;
 
-/// How many digits have a number of 64 bits, whatever they are.
+/// The most bytes that [`short_value_of`] reads; whatever they are, the result has at most 64 bits.
 const SHORT: usize = 17;
 
 /// Returns the number that at most 17 digits stand for.
@@ -26,7 +26,7 @@ fn short_value_of(digits: &[u8]) -> u64
     value
 }
 
-/// The number that digits stand for, held at `HELD`. Numbers of a report have few digits, and are read in 64 bits.
+/// Returns the number that `digits` stand for, capped at 2^120; in 64 bits if they are few, as in reports.
 fn value_of(digits: &[u8]) -> u128
     ensures { result ≡ held_size (value_of_digits digits.now) }
 {
@@ -40,14 +40,14 @@ fn value_of(digits: &[u8]) -> u128
     value
 }
 
-/// Whether the bytes are digits.
+/// Returns whether all of `bytes` are digits.
 fn are_digits(bytes: &[u8]) -> bool
     ensures { result ≡ list_all is_ascii_digit bytes.now }
 {
     bytes.iter().all(|byte| byte.is_ascii_digit())
 }
 
-/// Whether the bytes are digits of which the first isn't 0.
+/// Returns whether all bytes are digits, there is one, and the first is not 0.
 fn starts_above_zero(digits: &[u8]) -> bool
     ensures { result ≡ starts_above_zero digits.now }
 {
@@ -57,7 +57,7 @@ fn starts_above_zero(digits: &[u8]) -> bool
     }
 }
 
-/// The natural number that a word spells, held at `HELD`: 0, or digits of which the first isn't 0.
+/// Returns the natural number that `word` spells, capped at 2^120: 0, or digits of which the first is not 0.
 fn natural(word: &[u8]) -> Option<u128>
     ensures { result ≡ option_map held_size (natural_spelled word.now) }
 {
@@ -68,7 +68,7 @@ fn natural(word: &[u8]) -> Option<u128>
     }
 }
 
-/// The number that a point and three digits spell.
+/// Returns the number that `tail` spells: a point and three digits.
 fn fraction(tail: &[u8]) -> Option<u128>
     ensures { result ≡ option_map held_size (fraction_spelled tail.now) }
 {
@@ -84,7 +84,7 @@ fn fraction(tail: &[u8]) -> Option<u128>
     }
 }
 
-/// The number of thousandths that a word spells, held at `HELD`: a natural number, a point and three digits.
+/// Returns the thousandths that `word` spells, capped at 2^120: a natural number, a point and three digits.
 fn thousandths(word: &[u8]) -> Option<u128>
     ensures { result ≡ option_map held_size (thousandths_spelled word.now) }
 {
@@ -94,7 +94,7 @@ fn thousandths(word: &[u8]) -> Option<u128>
     Some((units.saturating_mul(1000).saturating_add(rest)).min(HELD))
 }
 
-/// The size of a coordinate that a word without a sign spells, held at `HELD`.
+/// Returns the size of a coordinate that `word`, which has no sign, spells in `version`, capped at 2^120.
 fn size(version: Version, word: &[u8]) -> Option<u128>
     ensures { result ≡ option_map held_size (size_spelled (version_of version) word.now) }
 {
@@ -104,8 +104,8 @@ fn size(version: Version, word: &[u8]) -> Option<u128>
     }
 }
 
-/// The coordinate that `word` spells in `version`: a size, perhaps behind a minus sign, which isn't before 0. Where it
-/// passes 2^120 in size it is held there. `None` exactly where the word spells no coordinate.
+/// Returns the coordinate that `word` spells in `version`: a size, or a minus sign and a size above 0. Sizes are capped
+/// at 2^120. `None` iff the word spells no coordinate.
 pub fn coordinate(version: Version, word: &[u8]) -> Option<i128>
     ensures { result ≡ option_map held (coordinate_spelled (version_of version) word.now) }
 {
@@ -122,8 +122,8 @@ pub fn coordinate(version: Version, word: &[u8]) -> Option<i128>
     }
 }
 
-/// The whole number that a word spells: 0, or an optional minus sign and digits of which the first isn't 0. Where it
-/// passes 2^120 in size it is held there. `None` exactly where the word spells no number.
+/// Returns the whole number that `word` spells: 0, or an optional minus sign and digits of which the first is not 0.
+/// Its size is capped at 2^120. `None` iff the word spells no number.
 pub fn spelled(word: &[u8]) -> Option<i128>
     ensures { result ≡ option_map held (number_spelled word.now) }
 {

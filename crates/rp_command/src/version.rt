@@ -5,6 +5,6 @@
 pub enum Version {
     /// Coordinates are whole numbers of units.
     One,
-    /// Coordinates are decimals with three digits behind the point; their thousandths are units.
+    /// Coordinates are decimals with three digits after the point; their thousandths are units.
     Two,
 }

@@ -1,4 +1,4 @@
--- What is left of the row of a question about lots once its tests are counted: which of some pairs of lots meet.
+-- The rest of the row of a question about lots after its tests are counted: tests of pairs of lots.
 use Rattle.std.specs.Prelude.{◌≡◌, ◌<◌, ◌≤◌, Bool, List, [], length, Result, Ok, Err}
 use Rattle.std.specs.List.{AllByRecursion}
 use Rattle.rp_geometry.specs.sets.Shape.{Part}
@@ -21,32 +21,32 @@ use Rattle.rp_contacts.specs.declared.touching.TouchLeft.{TouchLeft}
 use Rattle.rp_contacts.specs.Meets.{meet_each, contact_ids}
 use Rattle.rp_contacts.specs.Numbers.{AreBelow, links_met}
 
--- the row comes to the reply, as the model sees the result, or ends so, and the work is this
+-- the row has the reply of the result, as the model sees it, or its end, with the given work
 abbrev pub Answers : {W A : Type 0} → (A → Reply) → Result A RowEnd → W → Outcome W Reply → Type 0
 Answers view (Ok x) w o = o ≡ done (view x) w
 Answers view (Err e) w o = EndsBy e w o
 
--- the pairs of parts whose boxes share a point are counted, and then the lots in contact are looked for
+-- counts the pairs of parts whose boxes share a point, and then finds the lots in contact
 abbrev pub touch_counted : {W S : Type 0} → Tester W → List Part → List (Lot S) → Walk W (List Label)
 touch_counted tester ps lots = do
   tester.count (pairs_with Touch ps lots)
   touched_lots tester [] ps lots
 
--- the tests of some pairs are left of a walk that looks for the lots in contact; or it stops
+-- the rest of a walk that finds the lots in contact: tests of pairs; or the walk is stopped
 abbrev pub LeavesPairs : {W S : Type 0} → Result TouchLeft Stopped → List (Lot S) → Tester W → W → Outcome W (List Label) → Type 0
 LeavesPairs (Ok left) lots tester w o = o ≡ after_first (λ met. pass (contact_ids lots left.places.items met)) (meet_each tester Touch (lot_parts lots) [] left.pairs.items w)
 LeavesPairs (Err e) lots tester w o = StopsBy e w o
 
--- the reply that tells the ids of those lots at some places that meet
+-- the reply with the ids of the lots at some places that meet
 abbrev pub contacts_reply : {S : Type 0} → List (Lot S) → TouchLeft → List Bool → Reply
 contacts_reply lots left met = reply_lines (neighbour_lines (contact_ids lots left.places.items met))
 
--- the tests of some pairs are left of the row of neighbours, and the reply tells the lots that meet; or it ends
+-- the rest of the row of neighbours: tests of pairs, and the reply with the lots that meet; or the row ends
 abbrev pub LeavesContacts : {W S : Type 0} → Result TouchLeft RowEnd → List (Lot S) → Tester W → W → Outcome W Reply → Type 0
 LeavesContacts (Ok left) lots tester w o = o ≡ after_first (λ met. pass (contacts_reply lots left met)) (meet_each tester Touch (lot_parts lots) [] left.pairs.items w)
 LeavesContacts (Err e) lots tester w o = EndsBy e w o
 
--- what is left of access has few ids, both of the lots that are asked for among them, and as many pairs of their numbers as of places
+-- the rest of access is consistent: few ids, both given lots among them, and one pair of numbers for each pair of places
 pub record IsReady (left : AccessLeft) : Type 0 where
   pub few : length left.ids.items ≤ most_kept_parts
   pub below : AllByRecursion (AreBelow (length left.ids.items)) left.numbers.items
@@ -54,16 +54,16 @@ pub record IsReady (left : AccessLeft) : Type 0 where
   pub from_there : place_among left.from left.ids.items < length left.ids.items
   pub to_there : place_among left.to left.ids.items < length left.ids.items
 
--- the reply of access where these pairs meet
+-- the reply of access, from the pairs that meet
 abbrev pub access_reply : AccessLeft → List Bool → Reply
 access_reply left met = reply_lines (access_by_links left.ids.items (links_met left.numbers.items met) left.from left.to)
 
--- the tests of some pairs are left of the row of access, and the reply is told by those that meet; or it stops
+-- the rest of the row of access after its checks: tests of pairs, and the reply from those that meet; or the row is stopped
 abbrev pub LeavesAccess : {W S : Type 0} → Result AccessLeft Stopped → List (Lot S) → Tester W → W → Outcome W Reply → Type 0
 LeavesAccess (Ok left) lots tester w o = o ≡ after_first (λ met. pass (access_reply left met)) (meet_each tester Touch (lot_parts lots) [] left.pairs.items w)
 LeavesAccess (Err e) lots tester w o = StopsBy e w o
 
--- the same with its checks: it may end by them too
+-- the rest of the row of access: tests of pairs, and the reply from those that meet; or the row ends, also by its checks
 abbrev pub LeavesLinks : {W S : Type 0} → Result AccessLeft RowEnd → List (Lot S) → Tester W → W → Outcome W Reply → Type 0
 LeavesLinks (Ok left) lots tester w o = o ≡ after_first (λ met. pass (access_reply left met)) (meet_each tester Touch (lot_parts lots) [] left.pairs.items w)
 LeavesLinks (Err e) lots tester w o = EndsBy e w o

@@ -1,4 +1,4 @@
--- What a database that is a book holds.
+-- The contents of a database that is a book.
 use Rattle.std.specs.Prelude.{◌≡◌, ℕ, ◌+◌, pos, Bool, false, IsTrue, List, [], ◌∷◌, ◌++◌, Option, length, map, refl}
 use Rattle.std.specs.List.Sorted.{IsPermutation}
 use Rattle.std.specs.Coded.{Coded, code_by, coded×, coded_ℕ, coded_list, coded_option}
@@ -12,7 +12,7 @@ use Rattle.rp_book.specs.Lines.{HasEnd}
 use Rattle.rp_book_schema.specs.Entry.{book_schema, entries_in, shown_entry, told}
 use Rattle.rp_disk_book.specs.Kept.{Kept, with_act}
 
--- a row that a query shows is the entry with the number, of this act
+-- a row that a query shows is the entry with number n, of this act
 pub record ShowsAct (n : ℕ) (row : Row) (act : Told) : Type 0 where
   pub number : column row 0 ≡ Int (pos n)
   pub first : column row 1 ≡ Int (pos act.first)
@@ -21,34 +21,34 @@ pub record ShowsAct (n : ℕ) (row : Row) (act : Told) : Type 0 where
   pub who : column row 4 ≡ told act.who
   pub deed : column row 5 ≡ told act.deed
 
--- it has these lines, which come behind the lines before, and the act has their numbers
+-- the row has these lines, which come after the lines before, and the act has their numbers
 pub record IsEntry (n : ℕ) (before added : List ℕ) (row : Row) (act : Told) : Type 0 where
   pub shows : ShowsAct n row act
   pub lines : column row 6 ≡ Text added
   pub end : HasEnd added
   pub numbers : HasNumbers before added act
 
--- rows that a query shows are the entries of these acts, the first of which has the number; behind the lines before, their lines are the script
+-- rows that a query shows are the entries of these acts, the first with the given number; after the lines before, their lines make the script
 abbrev pub AreEntries : ℕ → List ℕ → List Row → List Told → List ℕ → Type 0
 AreEntries number before [] [] script = before ≡ script
 AreEntries number before [] (act ∷ acts) script = ⊥
 AreEntries number before (row ∷ rows) [] script = ⊥
 AreEntries number before (row ∷ rows) (act ∷ acts) script = (lines : List ℕ) × IsEntry number before lines row act × AreEntries (number + 1) (before ++ lines) rows acts script
 
--- the rows, in the order of their numbers, are the entries of these acts, whose lines are the script
+-- the rows, in the order of their numbers, are the entries of these acts, whose lines make the script
 pub record HoldsScript (rows : List Row) (acts : List Told) (script : List ℕ) : Type 0 where
   pub ordered : List Row
   pub same : IsPermutation rows ordered
   pub entries : AreEntries 1 [] (map shown_entry ordered) acts script
 
--- a row came to what was read
+-- a row was added to what was read
 pub record GainsRow (row : Row) (old new : Kept) : Type 0 where
   pub act : Told
   pub lines : List ℕ
   pub is : IsEntry (length old.acts + 1) old.script lines row act
   pub read : new ≡ with_act old act lines
 
--- rows that were read, and others
+-- some rows were read, and others are left
 pub record HasRead (rows rest : List Row) (k : Kept) : Type 0 where
   pub told : List Row
   pub whole : told ++ rest ≡ rows
@@ -62,7 +62,7 @@ pub record IsBook (s : State) (acts : List Told) (script : List ℕ) : Type 0 wh
   pub settled : s.now ≡ s.committed
   pub holds : HoldsScript (entries_in s.committed.trees) acts script
 
--- so it is as long as no write failed and the disk has returned what was written
+-- the last commit is a book with the acts and the script, as long as no write failed and the disk returns what was written
 abbrev pub IsBookUntil : ℕ → State → List Told → List ℕ → Type 0
 IsBookUntil faults s acts script = faults ≡ 0 → HasCleanDisk s → IsBook s acts script
 
@@ -70,7 +70,7 @@ IsBookUntil faults s acts script = faults ≡ 0 → HasCleanDisk s → IsBook s 
 abbrev pub RecoverableFromDatabase : State → (List ℕ → Bool) → Type 0
 RecoverableFromDatabase s test = HasCleanDisk s → (db : Trees) → s.may_leave db → (acts : List Told) × (script : List ℕ) × HoldsScript (entries_in db) acts script × IsTrue (test script)
 
--- a book as contracts see it
+-- a book as a contract sees it
 pub record Opened (S : Type 0) : Type 0 where
   pub conn : Held S
   pub script : List ℕ

@@ -1,4 +1,4 @@
--- What a book has in memory.
+-- The contents of a book in memory.
 use Rattle.std.specs.Prelude.{◌≡◌, ℕ, ◌+◌, ◌≤◌, List, [], ◌∷◌, ◌++◌, length, map, vec_len, vec_capacity}
 use Rattle.rp_reports.specs.Output.{most_script_bytes}
 use Rattle.rp_book.specs.Act.{Told, HasActs, act_of}
@@ -14,7 +14,7 @@ pub record Kept : Type 0 where
 abbrev pub contents_of : Contents → Kept
 contents_of c = record { script = c.script.items; acts = map act_of c.acts.items; lines = c.lines }
 
--- the acts are those of the script, whose last line has an end and the number
+-- the acts are those of the script, whose last line has a line end and the given number
 pub record IsKept (k : Kept) : Type 0 where
   pub end : IsEnded k.script
   pub short : length k.script ≤ most_script_bytes
@@ -23,7 +23,7 @@ pub record IsKept (k : Kept) : Type 0 where
   pub acts : HasActs k.script k.acts
   pub few : length k.acts ≤ length k.script
 
--- an act with its lines came
+-- the contents with one more act and its lines
 abbrev pub with_act : Kept → Told → List ℕ → Kept
 with_act k act lines = record { script = k.script ++ lines; acts = k.acts ++ act ∷ []; lines = act.last }
 

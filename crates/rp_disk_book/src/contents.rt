@@ -1,4 +1,4 @@
-//! What a book has in memory.
+//! The contents of a book in memory.
 ghost use Rattle.std.specs.Prelude.{◌≡◌, ◌+◌, ◌≤◌, ◌∷◌, ◌++◌, [], length, IfOk, OnOk, vec_len, vec_capacity};
 ghost use Rattle.rp_reports.specs.Output.{most_script_bytes};
 ghost use Rattle.rp_book.specs.Act.{HasNumbers, act_at, act_of};
@@ -19,7 +19,7 @@ pub struct Contents {
     pub lines: u32,
 }
 
-// Appends a piece that there is room for.
+// Appends `piece`, for which there is room, to `bytes`.
 fn append(bytes: &mut Vec<u8>, piece: &[u8])
     requires { vec_len bytes.old + length piece.now ≤ vec_capacity bytes.old }
     ensures { bytes.new.items ≡ bytes.old.items ++ piece.now }
@@ -27,7 +27,7 @@ fn append(bytes: &mut Vec<u8>, piece: &[u8])
     bytes.extend_from_slice(piece).unwrap();
 }
 
-// Appends an act that there is room for.
+// Appends `act`, for which there is room, to `acts`.
 fn append_act(acts: &mut Vec<Act>, act: Act)
     requires { vec_len acts.old + 1 ≤ vec_capacity acts.old }
     ensures { acts.new.items ≡ acts.old.items ++ act ∷ [] }
@@ -36,7 +36,7 @@ fn append_act(acts: &mut Vec<Act>, act: Act)
 }
 
 impl Contents {
-    /// No line.
+    /// Returns the contents of a book without lines.
     pub fn new(alloc: Global) -> Contents
         ensures kept { IsKept (contents_of result) }
         ensures empty { contents_of result ≡ record { script = []; acts = []; lines = 0 } }
@@ -48,7 +48,7 @@ impl Contents {
         }
     }
 
-    /// Returns the number of the entry that comes next.
+    /// Returns the number of the next entry.
     pub fn next_number(&self) -> u32
         requires { IsKept (contents_of self.now) }
         ensures { result ≡ length (contents_of self.now).acts + 1 }
@@ -56,7 +56,7 @@ impl Contents {
         self.acts.len() as u32 + 1
     }
 
-    /// Makes room for an act with its `lines`.
+    /// Makes room for an act with its `lines`. The contents stay.
     pub fn reserve(&mut self, lines: &[u8]) -> Result<(), AllocError>
         ensures same { contents_of self.new ≡ contents_of self.old }
         ensures room { OnOk result (HasRoom self.new lines.now) }

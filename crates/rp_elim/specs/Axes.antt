@@ -1,4 +1,4 @@
--- The coefficients of a half-space by axis.
+-- The coefficients of a half-space, by axis.
 use Rattle.std.specs.Prelude.{Bool, true, false, ◌&&◌, ◌||◌, ℤ, neg_ℤ, List, [], ◌∷◌}
 use Rattle.rp_algebra.specs.Integer.{is_zero, is_positive, is_negative}
 use Rattle.rp_geometry.specs.Geometry.{HalfSpace}
@@ -8,7 +8,7 @@ use Rattle.rp_geometry.specs.searches.Elimination.{multiple_of}
 use Rattle.rp_elim.specs.declared.minors.Axis.{Axis}
 use Rattle.rp_elim.specs.declared.minors.Axis.TheVariants.{X, Y, Z}
 
--- the coefficient of that axis
+-- the coefficient of the given axis
 abbrev pub along : Axis → HalfSpace → ℤ
 along X h = h.a
 along Y h = h.b
@@ -22,7 +22,7 @@ minors_on_axis f g u = multiple_of (u g) f ∷ multiple_of (neg_ℤ (u f)) g ∷
 abbrev pub minor_on : Axis × Axis → HalfSpace → HalfSpace → ℤ
 minor_on axes f g = det2 (along axes.0 f) (along axes.1 f) (along axes.0 g) (along axes.1 g)
 
--- the first two axes on which two half-spaces are independent; the last two where there are none
+-- the first two axes on which two half-spaces are independent; the last two axes if there are none
 abbrev pub axes_of : HalfSpace → HalfSpace → Axis × Axis
 axes_of f g =
     elim (is_zero (det2 f.a f.b g.a g.b)) [

@@ -4,7 +4,7 @@ use Rattle.rp_algebra.specs.Within.{IsWithin}
 use Rattle.rp_geometry.specs.searches.Vertex.{det2}
 use Rattle.rp_elim.specs.declared.cross.Cross.TheInside.{Inside}
 
--- the kept minors are those of the two half-spaces
+-- the stored minors are those of the two half-spaces
 pub record HasMinors (p : Inside) : Type 0 where
   pub bc : p.bc ≡ det2 p.first.now.b p.first.now.c p.second.now.b p.second.now.c
   pub ac : p.ac ≡ det2 p.first.now.a p.first.now.c p.second.now.a p.second.now.c

@@ -1,4 +1,4 @@
--- The size of multipliers.
+-- The sizes of multipliers.
 use Rattle.std.specs.Prelude.{◌*◌, ◌^◌, List}
 use Rattle.std.specs.List.{AllByRecursion}
 use Rattle.rp_algebra.specs.Within.{IsWithin}

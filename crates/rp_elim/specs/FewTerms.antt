@@ -5,7 +5,7 @@ use Rattle.rp_geometry.specs.searches.Certificate.{Multiple}
 use Rattle.rp_geometry.specs.searches.Search.{first_of, first_of_pairs}
 use Rattle.rp_geometry.specs.searches.Elimination.{refutation_of_one, refutation_of_two}
 
--- the first refutation by one half-space of a list, or else by two
+-- the first refutation by one half-space of a list; if there is none, by two
 abbrev pub first_of_two : Bool → List HalfSpace → Option (List Multiple)
 first_of_two strict hs = elim (first_of (refutation_of_one strict) hs) [ Some terms ↦ Some terms | None ↦ first_of_pairs (refutation_of_two strict) hs ]
 

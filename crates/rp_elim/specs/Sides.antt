@@ -9,21 +9,21 @@ abbrev pub has_sign : Bool → ℤ → Bool
 has_sign true v = is_positive v
 has_sign false v = is_negative v
 
--- the number (true), or its negative (false)
+-- the number (true), or its negation (false)
 abbrev pub signed : Bool → ℤ → ℤ
 signed true v = v
 signed false v = neg_ℤ v
 
--- a sum of offsets is at most 0 (strict), or below 0 (weak)
+-- a sum of offsets is at most 0 (strict, true), or below 0 (weak, false)
 abbrev pub contradicts : Bool → ℤ → Bool
 contradicts true s = int_le s (pos 0)
 contradicts false s = is_negative s
 
--- the offsets of four half-spaces, so many times with alternating signs
+-- the sum of four multiples of the offsets of four half-spaces, with alternating signs
 abbrev pub four_offsets : ℤ → ℤ → ℤ → ℤ → HalfSpace → HalfSpace → HalfSpace → HalfSpace → ℤ
 four_offsets x y z w e f g h = x *ℤ e.d -ℤ y *ℤ f.d +ℤ z *ℤ g.d -ℤ w *ℤ h.d
 
--- the offsets of four half-spaces, each times its minor
+-- the sum of the offsets of four half-spaces, each times its minor, with alternating signs
 abbrev pub offset_of_four : HalfSpace → HalfSpace → HalfSpace → HalfSpace → ℤ
 offset_of_four e f g h = four_offsets (meeting_weight f g h) (meeting_weight e g h) (meeting_weight e f h) (meeting_weight e f g) e f g h
 
@@ -38,6 +38,6 @@ pub record ThreeHalfSpaces : Type 0 where
   pub second : HalfSpace
   pub third : HalfSpace
 
--- the three half-spaces of these values
+-- the three half-spaces as one value
 abbrev pub three_of : HalfSpace → HalfSpace → HalfSpace → ThreeHalfSpaces
 three_of e f g = record { first = e; second = f; third = g }

@@ -12,20 +12,20 @@ use Rattle.rp_elim.specs.Sides.{has_sign}
 abbrev pub weight_has : Bool → HalfSpace → HalfSpace → Placed → Bool
 weight_has s f g q = has_sign s (meeting_weight f g q.half)
 
--- it is 0
+-- the determinant of two half-spaces and one of a list is 0
 abbrev pub is_flat : HalfSpace → HalfSpace → Placed → Bool
 is_flat f g q = is_zero (meeting_weight f g q.half)
 
--- the places of a list where it is above 0, and those where it is below 0
+-- the places of a list at which this determinant is above 0, and those at which it is below 0
 abbrev pub signs_of : HalfSpace → HalfSpace → List Placed → Signs
 signs_of f g qs = record { above = bits_of (weight_has true f g) qs; below = bits_of (weight_has false f g) qs }
 
--- the same of a half-space with each of a list and those behind it
+-- the signs of the determinants of k with each half-space of a list and those after it
 abbrev pub signs_list : HalfSpace → List Placed → List Signs
 signs_list k [] = []
 signs_list k (p ∷ ps) = signs_of k p.half ps ∷ signs_list k ps
 
--- the signs of the determinants of three half-spaces, and of the first with each of the two others and a fourth, let the four refute
+-- the signs of the determinants of three half-spaces, and of the first with each of the others and a fourth, allow the four to refute
 abbrev pub may_be_fourth : HalfSpace → HalfSpace → HalfSpace → Placed → Bool
 may_be_fourth e f g r =
     elim (has_sign true (meeting_weight e f g)) [

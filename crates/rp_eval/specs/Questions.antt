@@ -1,4 +1,4 @@
--- The questions about two forms that are answered with yes or no.
+-- The questions about two forms with the answer yes or no.
 use Rattle.std.specs.Prelude.{Bool, List}
 use Rattle.rp_geometry.specs.sets.Shape.{Part}
 use Rattle.rp_language.specs.Expression.{Expression, Command, ask_equal, ask_within, ask_overlap, ask_contact}
@@ -16,7 +16,7 @@ asking Within e f = ask_within e f
 asking Overlap e f = ask_overlap e f
 asking Contact e f = ask_contact e f
 
--- how a question is answered
+-- the walk that answers a question
 abbrev pub answer_to : {W : Type 0} → Tester W → Question → List Part → List Part → Walk W Bool
 answer_to tester Equal ps qs = cover_each_other tester ps qs
 answer_to tester Within ps qs = is_covered tester ps qs

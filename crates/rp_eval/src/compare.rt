@@ -1,4 +1,4 @@
-//! How two forms stand to each other, test by test.
+//! Comparisons of two forms, test by test.
 ghost use Rattle.std.specs.Prelude.{◌≡◌, true, false};
 ghost use Rattle.rp_semantics.specs.Form.{subtract_from_whole};
 ghost use Rattle.rp_semantics.specs.Compare.{show_then_no, is_covered, touches_outside, relation_by_rests, relation_by_overlap, relation_of_parts};
@@ -8,7 +8,7 @@ ghost use Rattle.rp_eval.specs.Relations.{relation_of, cover_each_other};
 use rp_oracle::{Stopped, Oracle};
 use std::alloc::Global;
 
-/// In which of the eight relations a first form stands to a second one.
+/// The eight relations of the region connection calculus, of a first form to a second one.
 #[derive(Clone, Copy, Debug, PartialEq, Eq)]
 pub enum Rcc8 {
     /// They are not in contact.
@@ -23,14 +23,18 @@ pub enum Rcc8 {
     TPP,
     /// The first is a proper part of the second, and no form is in contact with both and shares a point with neither.
     NTPP,
-    /// `TPP` with the sides exchanged.
+    /// `TPP` with the forms exchanged.
     TPPi,
-    /// `NTPP` with the sides exchanged.
+    /// `NTPP` with the forms exchanged.
     NTPPi,
 }
 
-/// Whether `form` has no part. The first part that it has is shown to have a point, by a strict test of `tests`, which
-/// isn't counted.
+/// Returns whether `form` has no part. A strict test of `tests`, which is not counted, shows that its first part has a
+/// point.
+///
+/// # Errors
+///
+/// `Stopped` with the reason if the strict test is stopped.
 pub fn is_empty<T: Oracle>(alloc: Global, form: &T::Form, tests: &mut T) -> Result<bool, Stopped>
     ensures { Refines (λ is_so. is_so) result tests.new (show_then_no T.tester (T.parts_of form.now) tests.old) }
 {
@@ -43,7 +47,11 @@ pub fn is_empty<T: Oracle>(alloc: Global, form: &T::Form, tests: &mut T) -> Resu
     }
 }
 
-/// Whether every point of `a` is one of `b`: by `tests`, nothing is left of `a` outside `b`.
+/// Returns whether every point of `a` is in `b`: `tests` subtracts `b` from `a`, and no part is left.
+///
+/// # Errors
+///
+/// `Stopped` with the reason if a test is stopped.
 pub fn within<T: Oracle>(
     alloc: Global,
     a: &T::Form,
@@ -56,7 +64,12 @@ pub fn within<T: Oracle>(
     is_empty(alloc, &left, tests)
 }
 
-/// Whether `a` and `b` have the same points: by `tests`, `a` is within `b`, and then `b` within `a`.
+/// Returns whether `a` and `b` have the same points: `tests` shows that `a` is within `b`, and then that `b` is within
+/// `a`.
+///
+/// # Errors
+///
+/// `Stopped` with the reason if a test is stopped.
 pub fn equal<T: Oracle>(
     alloc: Global,
     a: &T::Form,
@@ -71,7 +84,11 @@ pub fn equal<T: Oracle>(
     within(alloc, b, a, tests)
 }
 
-/// In which of the eight relations `a` stands to `b`, where both have parts, by `tests`.
+/// Returns the relation of `a` to `b`, by `tests`. Both have parts.
+///
+/// # Errors
+///
+/// `Stopped` with the reason if a test is stopped.
 pub fn found_relation<T: Oracle>(
     alloc: Global,
     a: &T::Form,
@@ -87,7 +104,7 @@ pub fn found_relation<T: Oracle>(
     }
 }
 
-/// The relation of two forms without a common point.
+/// Returns the relation of two forms without a common point: `EC` if they are in contact, otherwise `DC`.
 fn relation_apart<T: Oracle>(
     alloc: Global,
     a: &T::Form,
@@ -100,7 +117,7 @@ fn relation_apart<T: Oracle>(
     Ok(if touches { Rcc8::EC } else { Rcc8::DC })
 }
 
-/// The relation of two forms with a common point, by what is left of each outside the other.
+/// Returns the relation of two forms with a common point, by subtracting each from the other.
 fn relation_together<T: Oracle>(
     alloc: Global,
     a: &T::Form,
@@ -114,7 +131,8 @@ fn relation_together<T: Oracle>(
     relation_by_rests(alloc, a, b, &first_alone, &second_alone, tests)
 }
 
-/// The relation of two forms with a common point, of each of which this is left outside the other.
+/// Returns the relation of two forms with a common point. `first_alone` is the rest of `a` outside `b`; `second_alone`
+/// is the rest of `b` outside `a`.
 fn relation_by_rests<T: Oracle>(
     alloc: Global,
     a: &T::Form,
@@ -142,7 +160,7 @@ fn relation_by_rests<T: Oracle>(
     }
 }
 
-/// Whether a part is in contact with the outside of its whole.
+/// Returns whether `part` is in contact with the outside of `whole`.
 fn touches_outside<T: Oracle>(
     alloc: Global,
     part: &T::Form,
@@ -155,7 +173,11 @@ fn touches_outside<T: Oracle>(
     tests.contact(alloc, part, &outside)
 }
 
-/// What is left of the cube outside `form`, by `tests`.
+/// Returns the complement of `form` in the cube, by `tests`.
+///
+/// # Errors
+///
+/// `Stopped` with the reason if a test is stopped.
 pub fn outside<T: Oracle>(alloc: Global, form: &T::Form, tests: &mut T) -> Result<T::Form, Stopped>
     ensures { Refines T.parts_of result tests.new (subtract_from_whole T.tester (T.parts_of form.now) tests.old) }
 {

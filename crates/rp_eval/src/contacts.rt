@@ -1,4 +1,4 @@
-//! The pieces of a list of parts, test by test.
+//! The pieces of a form, by tests of its parts for contact.
 ghost use Rattle.std.specs.Prelude.{◌≡◌, ℕ, ◌+◌, ◌*◌, ◌≤◌, IfOk, OnOk, length, map};
 ghost use Rattle.std.specs.List.{AllByRecursion};
 ghost use Rattle.rp_geometry.specs.parts.Parts.{most_parts};
@@ -11,13 +11,17 @@ use rp_oracle::{Stopped, Oracle};
 use rp_unionfind::{PieceList, groups_of_links};
 use std::alloc::Global;
 
-/// Pairs of numbers of parts that are in contact.
+/// Pairs of the numbers of two parts in contact.
 type Links = Listed<(u32, u32)>;
 
-/// The pieces of `form`, as lists of the numbers of its parts, counted from 1: each number stands in one list, each
-/// list rises, and the lists come in the order of their first numbers. Each two parts, of at most 1,024, are tested for
-/// contact by `tests`, in order. As many tests are counted as there are pairs of parts; `Limit` comes exactly where
-/// these are too many.
+/// Returns the pieces of `form` as lists of the numbers of its parts, counted from 1. Each number is in one list, each
+/// list rises, and the lists are in the order of their first numbers. `tests` tests each two of at most 1,024 parts for
+/// contact, in order.
+///
+/// # Errors
+///
+/// `Limit` iff there are more pairs of parts than tests may still be counted. Another `Stopped` with the reason if a
+/// test is stopped.
 pub fn pieces<T: Oracle>(alloc: Global, form: &T::Form, tests: &mut T) -> Result<PieceList, Stopped>
     requires { length (T.parts_of form.now) ≤ most_parts }
     ensures comes { Refines numbers_of result tests.new (pieces_of_parts T.tester (T.parts_of form.now) tests.old) }
@@ -32,7 +36,7 @@ pub fn pieces<T: Oracle>(alloc: Global, form: &T::Form, tests: &mut T) -> Result
     Ok(groups_of_links(alloc, parts.len() as u32, links.items())?)
 }
 
-/// How many pairs there are of so many parts.
+/// Returns the number of pairs of `count` parts.
 fn pair_count(count: u64) -> u64
     requires { count ≤ most_parts }
     ensures { (pairs : ℕ) → pairs * 2 + count ≡ count * count → result ≡ pairs }
@@ -44,7 +48,7 @@ fn pair_count(count: u64) -> u64
     }
 }
 
-/// Each part of a list with each later one: the links come behind those found already.
+/// Tests each part with each later one, and appends the links found to `links`.
 fn links_among<T: Oracle>(
     alloc: Global,
     links: &mut Links,
@@ -69,7 +73,8 @@ fn links_among<T: Oracle>(
     Ok(())
 }
 
-/// One part with each of a list, whose numbers follow its own.
+/// Tests `part`, which has `number`, with each of `others`, which have the numbers after it. Appends the links found to
+/// `links`.
 fn links_with_part<T: Oracle>(
     alloc: Global,
     links: &mut Links,
@@ -91,7 +96,7 @@ fn links_with_part<T: Oracle>(
     Ok(())
 }
 
-/// One test of two numbered parts: where they are in contact, their link comes behind those found already.
+/// Tests two numbered parts. If they are in contact, appends their link to `links`.
 fn link_pair<T: Oracle>(
     alloc: Global,
     links: &mut Links,

@@ -15,7 +15,7 @@ use rp_space::box_halves;
 use rp_oracle::{Named, Stopped, Oracle};
 use std::alloc::Global;
 
-/// The name, if it stands for nothing.
+/// Returns `name` if no form is known for it.
 fn if_missing<T: Oracle>(name: &Name, form: Option<&T::Form>) -> Option<Name>
     ensures { result ≡ if_missing name.now (option_map T.parts_of (option_copied form.entry)) }
 {
@@ -25,7 +25,7 @@ fn if_missing<T: Oracle>(name: &Name, form: Option<&T::Form>) -> Option<Name>
     }
 }
 
-/// A copy of a form, and the one without parts where there is none. Answers `Memory` only for want of memory.
+/// Returns a copy of `form`; the form without parts if it is `None`. `Memory` if memory runs out.
 fn copy_or_none<T: Oracle>(alloc: Global, form: Option<&T::Form>) -> Result<T::Form, Stopped>
     ensures { (w : T) → Refines T.parts_of result w (pass (parts_or_none (option_map T.parts_of (option_copied form.entry))) w) }
 {
@@ -35,14 +35,14 @@ fn copy_or_none<T: Oracle>(alloc: Global, form: Option<&T::Form>) -> Result<T::F
     }
 }
 
-/// The form of the whole cube. Answers `Memory` only for want of memory.
+/// Returns the form of the whole cube. `Memory` if memory runs out.
 fn whole<T: Oracle>(alloc: Global) -> Result<T::Form, Stopped>
     ensures { (w : T) → Refines T.parts_of result w (pass (whole_part ∷ []) w) }
 {
     Ok(T::whole(alloc)?)
 }
 
-/// The first name or lot of `region`, in reading order, that `named` does not know.
+/// Returns the first name or lot of `region`, in reading order, that `named` does not know; `None` iff it knows all.
 pub fn first_unknown<T: Oracle, N: Named<T>>(named: &N, region: &Expr) -> Option<Name>
     ensures { result ≡ first_unknown (N.meaning named.now) (expression_of region.now) }
 {
@@ -78,9 +78,12 @@ enum Pairing {
     Minus,
 }
 
-/// The form of `region`, with what `named` knows of names and lots: its parts, at most 1,024, made by `tests` in
-/// reading order, with the parts kept for names. A name or lot that isn't there stands for no part. `Limit` exactly
-/// where the operations on forms say so.
+/// Returns the form of `region`, whose names and lots have the forms that `named` gives. `tests` makes its parts, at
+/// most 1,024, in reading order. An unknown name or lot has no part.
+///
+/// # Errors
+///
+/// `Limit` iff an operation on forms returns it. Another `Stopped` with the reason if a test is stopped.
 #[cycle(forms)]
 pub fn formed<T: Oracle, N: Named<T>>(
     alloc: Global,
@@ -111,7 +114,7 @@ pub fn formed<T: Oracle, N: Named<T>>(
     }
 }
 
-/// The form of an operation on two expressions.
+/// Returns the form of the operation `how` on two expressions.
 #[cycle(forms)]
 fn pair_formed<T: Oracle, N: Named<T>>(
     alloc: Global,
@@ -130,7 +133,7 @@ fn pair_formed<T: Oracle, N: Named<T>>(
     paired(alloc, how, first, second, tests)
 }
 
-/// An operation on two forms.
+/// Returns the form of the operation `how` on two forms.
 fn paired<T: Oracle>(
     alloc: Global,
     how: Pairing,

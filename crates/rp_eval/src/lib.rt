@@ -1,12 +1,12 @@
 #![tactic(auto)]
-//! What commands make and ask of forms, written once over whatever answers their tests and knows what names stand for:
-//! a search in a run, or the lines of a report in its check.
+//! The forms that commands make, and the questions that they ask of forms. The code is generic in the tester, which is
+//! a search in a run and the lines of a report in its check, and in the names that are known.
 //!
-//! [`formed`] makes the form of an expression, [`operand_of`] one that may be read in place, and [`is_member`] answers
-//! by signs alone. [`is_empty`], [`within`], [`equal`], [`found_relation`] and [`Question`] answer how forms stand to
-//! each other, by the eight relations of the region connection calculus (Randell, Cui and Cohn, 1992), and [`pieces`]
-//! the groups into which contact joins the parts of a form. Each makes exactly the tests of its definition, and is
-//! stopped exactly where that is.
+//! [`formed`] makes the form of an expression, [`operand_of`] one that may be read in place, and [`is_member`] tests a
+//! point by signs alone. [`is_empty`], [`within`], [`equal`], [`found_relation`] and [`Question`] compare forms by the
+//! eight relations of the region connection calculus (Randell, Cui and Cohn, 1992). [`pieces`] returns the groups into
+//! which contact joins the parts of a form. Each function makes exactly the tests of its definition, and is stopped iff
+//! the definition is.
 
 mod compare;
 mod contacts;

@@ -11,7 +11,7 @@ use rp_footprint::prism_holds;
 use rp_space::Point;
 use rp_oracle::{Named, Oracle};
 
-/// Whether a point of the cube lies in the form, if there is one.
+/// Returns whether `point`, which is in the cube, is in `form`; false if there is no form.
 fn is_held<T: Oracle>(form: Option<&T::Form>, point: &Point) -> bool
     requires { is_cube_point point.now ≡ true }
     ensures { result ≡ passes (shape_or_nothing (option_map (λ f. shape_of_parts (T.parts_of f)) (option_copied form.entry))) point.now }
@@ -22,7 +22,7 @@ fn is_held<T: Oracle>(form: Option<&T::Form>, point: &Point) -> bool
     }
 }
 
-/// Whether a point of the cube passes the test of the expression, in which each name and lot stands for its form.
+/// Returns whether `point`, which is in the cube, passes the test of `region`, in which each name and lot has its form.
 fn passes<T: Oracle, N: Named<T>>(named: &N, region: &Expr, point: &Point) -> bool
     requires kept { IsKeptExpression (expression_of region.now) }
     requires cube { is_cube_point point.now ≡ true }
@@ -49,8 +49,8 @@ fn passes<T: Oracle, N: Named<T>>(named: &N, region: &Expr, point: &Point) -> bo
     }
 }
 
-/// Whether `point` is a member of `region`, with what `named` knows of names and lots: it lies in the cube and passes
-/// its test.
+/// Returns whether `point` is in the cube and passes the test of `region`, whose names and lots have the forms that
+/// `named` gives.
 pub fn is_member<T: Oracle, N: Named<T>>(named: &N, region: &Expr, point: &Point) -> bool
     requires { IsKeptExpression (expression_of region.now) }
     ensures { result ≡ is_member (resolve_names (shapes_of_parts (N.meaning named.now)) (expression_of region.now)) point.now }

@@ -15,14 +15,14 @@ use std::alloc::Global;
 /// The form of an operand.
 #[derive(Drop)]
 pub enum Operand<'a, F: Drop> {
-    /// It is kept under a name, and read in place.
+    /// The stored form of a name, which is read in place.
     Kept(&'a F),
-    /// It was made for the command.
+    /// A form that was made for the command.
     Made(F),
 }
 
 impl<F: Drop> Operand<'_, F> {
-    /// The form.
+    /// Returns the form.
     pub fn form(&self) -> &F
         ensures { result.now ≡ form_of self.now }
     {
@@ -33,7 +33,7 @@ impl<F: Drop> Operand<'_, F> {
     }
 }
 
-/// The form that an expression names, if it is no more than a name or a lot.
+/// Returns the stored form of `region`, if this is a name or a lot that `named` knows.
 fn kept_form<'a, T: Oracle, N: Named<T>>(named: &'a N, region: &Expr) -> Option<&'a T::Form>
     ensures { IfSome (option_copied result) (λ kept. (w : T) → form T.tester (N.meaning named.now) (expression_of region.now) w ≡ pass (T.parts_of kept) w) }
 {
@@ -44,8 +44,12 @@ fn kept_form<'a, T: Oracle, N: Named<T>>(named: &'a N, region: &Expr) -> Option<
     }
 }
 
-/// The form of `region`, all of whose names `named` knows: one that is kept is read in place, another one is made by
-/// `tests`.
+/// Returns the form of `region`. If this is a name or a lot that `named` knows, the stored form is read in place;
+/// otherwise `tests` makes the form.
+///
+/// # Errors
+///
+/// `Limit` iff an operation on forms returns it. Another `Stopped` with the reason if a test is stopped.
 pub fn operand_of<'a, T: Oracle, N: Named<T>>(
     alloc: Global,
     named: &'a N,

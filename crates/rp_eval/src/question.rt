@@ -1,4 +1,4 @@
-//! Questions about two forms that are answered with yes or no.
+//! Questions about two forms with the answer yes or no.
 ghost use Rattle.rp_oracle.specs.Refines.{Refines};
 ghost use Rattle.rp_eval.specs.Questions.{answer_to};
 
@@ -6,21 +6,25 @@ use crate::compare::{equal, within};
 use rp_oracle::{Stopped, Oracle};
 use std::alloc::Global;
 
-/// A question about two forms that is answered with yes or no.
+/// A question about two forms with the answer yes or no.
 #[derive(Clone, Copy)]
 pub enum Question {
-    /// Whether they have the same points.
+    /// Do they have the same points?
     Equal,
-    /// Whether every point of the first is one of the second.
+    /// Is every point of the first in the second?
     Within,
-    /// Whether they share a point.
+    /// Do they share a point?
     Overlap,
-    /// Whether their closures share a point.
+    /// Do their closures share a point?
     Contact,
 }
 
 impl Question {
-    /// The answer for the forms `first` and `second`, by `tests`.
+    /// Returns the answer for the forms `first` and `second`, by `tests`.
+    ///
+    /// # Errors
+    ///
+    /// `Stopped` with the reason if a test is stopped.
     pub fn answer<T: Oracle>(
         self,
         alloc: Global,

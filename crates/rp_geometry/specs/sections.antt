@@ -1,4 +1,4 @@
--- Horizontal sections: traces of half-spaces, rings, flat certificates, and what is shown of a cell at a height.
+-- Horizontal sections: traces of half-spaces, rings, flat certificates, and the slice of a cell at a height.
 pub mod Trace
 pub mod Ring
 pub mod Flat

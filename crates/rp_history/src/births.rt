@@ -1,4 +1,4 @@
-//! Lots that are born, and lots that end.
+//! Births and ends of lots.
 ghost use Rattle.std.specs.Prelude.{◌≡◌, ◌≤◌, ◌++◌, false, None, IsTrue, map, length, IfOk};
 ghost use Rattle.std.specs.List.{AllByRecursion};
 ghost use Rattle.rp_language.specs.Name.{is_among};
@@ -11,7 +11,7 @@ use crate::lot::{Birth, LotLine};
 use rp_lists::{Listed, Name, Names};
 use std::alloc::{AllocError, Global};
 
-/// The lots that are born at the line, in order.
+/// Returns the lots of `births`, born at `line`, in order.
 pub(crate) fn lots_born(
     alloc: Global,
     line: u32,
@@ -26,7 +26,7 @@ pub(crate) fn lots_born(
     Ok(born)
 }
 
-/// A lot that is born at the line.
+/// Returns the lot of `birth`, born at `line`.
 fn lot_born(alloc: Global, line: u32, birth: &Birth) -> Result<LotLine, AllocError>
     ensures { IfOk result (λ lot. lot_of lot ≡ born_at line (new_lot_of birth.now)) }
 {
@@ -39,7 +39,7 @@ fn lot_born(alloc: Global, line: u32, birth: &Birth) -> Result<LotLine, AllocErr
     })
 }
 
-/// Ends the lots of these ids at the line, as far as they are live. The room stays.
+/// Ends the lots `ids` at `line`, each if it is live. The spare capacity stays.
 pub(crate) fn end_all(list: &mut LotList, line: u32, ids: &[Name])
     ensures lots { list.new.lots ≡ map (ended_at line ids.now) list.old.lots }
     ensures spare { list.old.spare ≤ list.new.spare }
@@ -49,7 +49,7 @@ pub(crate) fn end_all(list: &mut LotList, line: u32, ids: &[Name])
     }
 }
 
-/// Puts live lots with new ids last, in order. There is room for them.
+/// Appends the live lots `born`, whose ids are new, in order. The caller has made room for them.
 pub(crate) fn append(list: &mut LotList, born: Listed<LotLine>)
     requires room { length born.items ≤ list.old.spare }
     requires live { AllByRecursion (λ l. l.ended ≡ None) (map lot_of born.items) }

@@ -1,5 +1,5 @@
-//! The checks on names that come before the rest of a command. A contract speaks of each state whose lots have the
-//! history.
+//! The checks on names that a command makes before anything else. Their contracts hold for each state whose lots are
+//! this history.
 ghost use Rattle.std.specs.Prelude.{◌≡◌, ◌<◌, [], None, length, slice_get, option_map, IfOk, IfErr, IsSome};
 ghost use Rattle.rp_model.specs.states.State.{live_lot, layer_with_id, layer_of_first};
 ghost use Rattle.rp_model.specs.commands.Verdict.{repeated};
@@ -14,7 +14,11 @@ use rp_lists::Name;
 use std::alloc::{AllocError, Global};
 
 impl History {
-    /// That `id` is new: `Known(id)` exactly where it was ever registered.
+    /// Checks that `id` is new.
+    ///
+    /// # Errors
+    ///
+    /// `Known(id)` iff it was ever registered.
     pub fn check_new(&self, id: Name) -> Result<(), NameFault>
         ensures checks { InEach self.now (λ s. ChecksNames result (check_new s id)) }
         ensures fault { IfErr result (λ e. e ≡ Known id) }
@@ -25,7 +29,7 @@ impl History {
         }
     }
 
-    /// `Known` with the first of the ids that was ever registered.
+    /// Checks that all of `ids` are new. `Known` with the first that was ever registered.
     fn check_all_new(&self, ids: &[Name]) -> Result<(), NameFault>
         ensures { InEach self.now (λ s. ChecksNames result (check_each (check_new s) ids.now)) }
     {
@@ -35,7 +39,11 @@ impl History {
         Ok(())
     }
 
-    /// The place of the live lot `id` among all lots. `Unknown(id)` exactly where it isn't live.
+    /// Returns the index of the live lot `id` among all lots.
+    ///
+    /// # Errors
+    ///
+    /// `Unknown(id)` iff it is not live.
     pub fn check_live(&self, id: Name) -> Result<usize, NameFault>
         ensures checks { InEach self.now (λ s. ChecksNames result (check_live s id)) }
         ensures lot { InEach self.now (λ s. IfOk result (λ k. slice_get s.lots k ≡ live_lot id s.lots)) }
@@ -48,7 +56,7 @@ impl History {
         }
     }
 
-    /// `Unknown` with the first of the ids that isn't live.
+    /// Checks that all of `ids` are live. `Unknown` with the first that is not.
     fn check_all_live(&self, ids: &[Name]) -> Result<(), NameFault>
         ensures { InEach self.now (λ s. ChecksNames result (check_each (check_live s) ids.now)) }
     {
@@ -58,9 +66,16 @@ impl History {
         Ok(())
     }
 
-    /// The checks on names of a cut of `id` into `first` and `second`, in order, and the place of `id` among all lots.
-    /// `Unknown` where `id` isn't live; or else `Known` with the first of the two that was ever registered; or else
-    /// `Same` where they are one. Takes no memory.
+    /// Checks the names of a cut of `id` into `first` and `second`. Returns the index of `id` among all lots. Takes no
+    /// memory.
+    ///
+    /// # Errors
+    ///
+    /// The first of these, in this order:
+    ///
+    /// * `Unknown(id)` if `id` is not live;
+    /// * `Known` with the first of the two new ids that was ever registered;
+    /// * `Same` if the two new ids are equal.
     pub fn check_cut(&self, id: Name, first: Name, second: Name) -> Result<usize, NameFault>
         ensures checks { InEach self.now (λ s. ChecksNames result (check_cut s id first second)) }
         ensures lot { InEach self.now (λ s. IfOk result (λ k. slice_get s.lots k ≡ live_lot id s.lots)) }
@@ -76,9 +91,18 @@ impl History {
         Ok(place)
     }
 
-    /// The checks on names of a subdivision of `id` into `ids`, in order, and the place of `id` among all lots. `Few`
-    /// where there are fewer than two `ids`; or else `Unknown` where `id` isn't live; or else `Known` with the first of
-    /// `ids` that was ever registered; or else `Repeated` with the first of them that stood before.
+    /// Checks the names of a subdivision of `id` into `ids`. Returns the index of `id` among all lots.
+    ///
+    /// # Errors
+    ///
+    /// The first of these, in this order:
+    ///
+    /// * `Few` if there are fewer than two `ids`;
+    /// * `Unknown(id)` if `id` is not live;
+    /// * `Known` with the first of `ids` that was ever registered;
+    /// * `Repeated` with the first of `ids` that equals an earlier one.
+    ///
+    /// `Memory` if memory runs out.
     pub fn check_subdivide(&self, alloc: Global, id: Name, ids: &[Name]) -> Result<usize, NameFault>
         ensures checks { InEach self.now (λ s. ChecksNames result (check_subdivide s id ids.now)) }
         ensures lot { InEach self.now (λ s. IfOk result (λ k. slice_get s.lots k ≡ live_lot id s.lots)) }
@@ -93,10 +117,19 @@ impl History {
         Ok(place)
     }
 
-    /// The checks on names of a consolidation of `ids` into `new`, in order, and the layer of `ids`. `Few` where there
-    /// are fewer than two `ids`; or else `Unknown` with the first of them that isn't live; or else `Repeated` with the
-    /// first that stood before; or else `Layers` with the first that has another layer than the first of all; or else
-    /// `Known` where `new` was ever registered.
+    /// Checks the names of a consolidation of `ids` into `new`. Returns the layer of `ids`.
+    ///
+    /// # Errors
+    ///
+    /// The first of these, in this order:
+    ///
+    /// * `Few` if there are fewer than two `ids`;
+    /// * `Unknown` with the first of `ids` that is not live;
+    /// * `Repeated` with the first of `ids` that equals an earlier one;
+    /// * `Layers` with the first of `ids` whose layer differs from that of the first;
+    /// * `Known(new)` if `new` was ever registered.
+    ///
+    /// `Memory` if memory runs out.
     pub fn check_consolidate(
         &self,
         alloc: Global,
@@ -117,8 +150,14 @@ impl History {
         Ok(layer)
     }
 
-    /// The checks on ids of access from `from` to `to`, in order, and the layer of both. `Unknown` with the first of
-    /// the two that isn't live; or else `Layers(to)` where they have two layers. Takes no memory.
+    /// Checks the ids of a query for access from `from` to `to`. Returns the layer of both. Takes no memory.
+    ///
+    /// # Errors
+    ///
+    /// The first of these, in this order:
+    ///
+    /// * `Unknown` with the first of the two that is not live;
+    /// * `Layers(to)` if their layers differ.
     pub fn check_access(&self, from: Name, to: Name) -> Result<Name, NameFault>
         ensures checks { InEach self.now (λ s. ChecksNames result (check_access s from to)) }
         ensures layer { InEach self.now (λ s. IfOk result (λ y. y ≡ layer_with_id s from)) }
@@ -133,7 +172,7 @@ impl History {
         Ok(layer)
     }
 
-    /// The layer of the live lot `id`.
+    /// Returns the layer of the live lot `id`.
     pub fn layer_of(&self, id: &Name) -> Name
         requires { InEach self.now (λ s. check_live s id.now ≡ None) }
         ensures { InEach self.now (λ s. result ≡ layer_with_id s id.now) }
@@ -145,7 +184,7 @@ impl History {
         }
     }
 
-    /// `Layers` with the first of some live ids whose layer is another one.
+    /// Checks that the live lots `ids` are all of `layer`. `Layers` with the first that is not.
     fn check_layers(&self, ids: &[Name], layer: &Name) -> Result<(), NameFault>
         requires { InEach self.now (λ s. check_each (check_live s) ids.now ≡ None) }
         ensures { InEach self.now (λ s. ChecksNames result (check_each (check_layer s layer.now) ids.now)) }
@@ -159,7 +198,7 @@ impl History {
     }
 }
 
-/// `Repeated` with the first of the ids that stood before.
+/// Checks that `ids` are distinct. `Repeated` with the first that equals an earlier one.
 fn check_repeated(alloc: Global, ids: &[Name]) -> Result<(), NameFault>
     ensures { ChecksNames result (check_repeated [] ids.now) }
 {
@@ -169,7 +208,7 @@ fn check_repeated(alloc: Global, ids: &[Name]) -> Result<(), NameFault>
     }
 }
 
-/// The first of the ids that stood before.
+/// Returns the first of `ids` that equals an earlier one; `None` iff they are distinct.
 fn first_repeated(alloc: Global, ids: &[Name]) -> Result<Option<Name>, AllocError>
     ensures { IfOk result (λ o. option_map repeated o ≡ check_repeated [] ids.now) }
 {
@@ -177,7 +216,8 @@ fn first_repeated(alloc: Global, ids: &[Name]) -> Result<Option<Name>, AllocErro
     first_known(&mut before, ids)
 }
 
-/// The first of the ids that stands in the set; each that doesn't goes into it, which is empty at first.
+/// Inserts `ids` into the empty set `before`, up to the first that is already there. Returns this id; `None` iff `ids`
+/// are distinct.
 fn first_known(before: &mut IndexSet<Name>, ids: &[Name]) -> Result<Option<Name>, AllocError>
     requires { before.old.keys ≡ [] }
     ensures { IfOk result (λ o. option_map repeated o ≡ check_repeated [] ids.now) }

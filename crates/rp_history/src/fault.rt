@@ -1,24 +1,24 @@
-//! Why a check on names fails.
+//! The reasons why a check on names fails.
 
 use rp_lists::Name;
 use std::alloc::AllocError;
 
-/// Why a check on names fails.
+/// The reason why a check on names failed.
 #[derive(Drop)]
 pub enum NameFault {
-    /// A new id was registered before.
+    /// An id that must be new was registered before.
     Known(Name),
-    /// An old id isn't live.
+    /// An id that must be live is not.
     Unknown(Name),
-    /// An id stands twice.
+    /// An id is given twice.
     Repeated(Name),
-    /// An old id isn't of the layer of the first.
+    /// A lot is not of the layer of the first one.
     Layers(Name),
     /// Both new ids are one name.
     Same,
-    /// There are fewer than two.
+    /// Fewer than two ids are given.
     Few,
-    /// There was no memory.
+    /// Memory ran out.
     Memory(AllocError),
 }
 

@@ -1,4 +1,4 @@
-//! The history of lots, and what is asked of it.
+//! The history of lots and its queries.
 ghost use Rattle.std.specs.Prelude.{◌≡◌, ◌<◌, ◌≤◌, [], ◌∷◌, None, map, length, slice_get, IsTrue, IfSome, IfOk, OnOk, OnErr};
 ghost use Rattle.std.specs.Option.{option_and_then};
 ghost use Rattle.rp_language.specs.Name.{is_among};
@@ -15,7 +15,7 @@ use rp_lists::{Name, Names};
 use std::alloc::{AllocError, Global};
 use std::marker::Model;
 
-/// All lots that were ever registered, in the order of their births. A contract sees them as lots without parts.
+/// All lots that were ever registered, in the order of their births. A contract sees lots without parts.
 #[derive(Drop)]
 pub struct History {
     list: LotList,
@@ -34,7 +34,7 @@ impl Model for History {
 }
 
 impl History {
-    /// No lots. Takes no memory.
+    /// Returns the history of no lots. Takes no memory.
     pub fn new(alloc: Global) -> History
         ensures { result ≡ [] }
     {
@@ -43,9 +43,13 @@ impl History {
         }
     }
 
-    /// Ends the lots `ends` at `line`, as far as they are live, and lets `births` be born there, which go last, in
-    /// order. All lots were born before `line`; the new ids are new and distinct, and their origins are known. After
-    /// `AllocError` all is as before.
+    /// Ends the lots `ends` at `line`, each if it is live, and appends `births` as lots born at `line`, in order. All
+    /// lots of the history were born before `line`. The new ids are new and distinct, and their origins are in the
+    /// history.
+    ///
+    /// # Errors
+    ///
+    /// `AllocError` if memory runs out. The history is then as before.
     pub fn note(
         &mut self,
         alloc: Global,
@@ -66,7 +70,7 @@ impl History {
         Ok(())
     }
 
-    /// Ends the lot `id` at `line`, where it is live. All lots were born before `line`. Takes no memory.
+    /// Ends the lot `id` at `line`, if it is live. All lots were born before `line`. Takes no memory.
     pub fn end(&mut self, line: u32, id: Name)
         requires { AreBornBefore line self.old }
         ensures lots { self.new ≡ map (ended_at line (id ∷ [])) self.old }
@@ -75,7 +79,7 @@ impl History {
         self.list.end(line, &id);
     }
 
-    /// All lots in the order of their births.
+    /// Returns all lots in the order of their births.
     pub fn lots(&self) -> &[LotLine]
         ensures value { map lot_of result.now ≡ self.now }
         ensures well { AreKeptWell self.now }
@@ -83,14 +87,14 @@ impl History {
         self.list.lots()
     }
 
-    /// The places of the live lots among all lots, in rising order, found without a walk over the others.
+    /// Returns the indexes of the live lots among all lots, in rising order, without a walk over the others.
     pub fn live(&self) -> &[usize]
         ensures { result.now ≡ live_places None 0 self.now }
     {
         self.list.live()
     }
 
-    /// How many lots are live.
+    /// Returns the number of live lots.
     pub fn live_count(&self) -> usize
         ensures value { result ≡ length (live_lots self.now) }
         ensures few { result ≤ length self.now }
@@ -98,8 +102,8 @@ impl History {
         self.live().len()
     }
 
-    /// The place of the lot `id` among all lots, found without a walk over them. `None` exactly where it was never
-    /// registered.
+    /// Returns the index of the lot `id` among all lots; `None` iff it was never registered. No walk over all lots is
+    /// made.
     pub fn place_of(&self, id: &Name) -> Option<usize>
         ensures lot { option_and_then (λ k. slice_get self.now k) result ≡ lot_with_id id.now self.now }
         ensures within { IfSome result (λ k. k < length self.now) }
@@ -108,8 +112,7 @@ impl History {
         self.list.place_of(id)
     }
 
-    /// The place of the live lot `id` among all lots, found without a walk over them. `None` exactly where it isn't
-    /// live.
+    /// Returns the index of the live lot `id` among all lots; `None` iff it is not live. No walk over all lots is made.
     pub fn live_place(&self, id: &Name) -> Option<usize>
         ensures lot { option_and_then (λ k. slice_get self.now k) result ≡ live_lot id.now self.now }
         ensures within { IfSome result (λ k. k < length self.now) }
@@ -118,7 +121,7 @@ impl History {
         self.list.live_place(id)
     }
 
-    /// Whether `id` was born at `line` or before, and wasn't ended at `line` or before.
+    /// Returns whether `id` was born at `line` or before, and was not ended at `line` or before.
     pub fn alive(&self, id: Name, line: u32) -> bool
         ensures { result ≡ is_among id (ids_of (alive_after line self.now)) }
     {
@@ -128,8 +131,8 @@ impl History {
         }
     }
 
-    /// The ids of the lot `id` and of all lots from which it descends through origins, in the order of their births;
-    /// none where `id` was never registered. Other lots are not looked at.
+    /// Returns the ids of the lot `id` and of all lots from which it descends through origins, in the order of their
+    /// births. Returns no ids if `id` was never registered. Other lots are not read.
     pub fn lineage(&self, alloc: Global, id: Name) -> Result<Names, AllocError>
         ensures { IfOk result (λ ids. ids.items ≡ ids_of (lineage id self.now)) }
     {

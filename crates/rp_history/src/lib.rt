@@ -2,10 +2,10 @@
 //! The history of lots: which were ever registered, when each was born and ended, and from which others it was made (an
 //! append-only log of lifespans, with provenance).
 //!
-//! Births and ends are noted as the definition says, and no lot is ever taken out; want of memory leaves all as it was.
-//! The place of a lot, and of a live one, is that of its id, found without a walk. The lineage of a lot is the
-//! definition's: the lots that are reached through origins, in the order of their births. The checks on names that come
-//! before the rest of a command are made on it. Calls that answer `AllocError` do so only for want of memory.
+//! Births and ends are recorded as the definition says, and no lot is ever removed. If memory runs out, the history
+//! stays as it was. The index of a lot, or of a live lot, is found from its id without a walk. The lineage of a lot is
+//! the definition's: the lots that are reached through origins, in the order of their births. Commands check their
+//! names against the history first. A call returns `AllocError` only if memory runs out.
 
 mod births;
 mod checks;

@@ -1,4 +1,4 @@
-//! The lots that a lot descends from.
+//! The lots from which a lot descends.
 ghost use Rattle.std.specs.Prelude.{◌≡◌, ◌∷◌, [], reverse, IfOk, OnOk};
 ghost use Rattle.rp_model.specs.states.State.{ids_of, lineage};
 ghost use Rattle.rp_history.specs.Pending.{AddsPlaces};
@@ -8,7 +8,7 @@ use rp_lists::{Name, Names};
 use std::alloc::{AllocError, Global};
 use std::collections::BTreeSet;
 
-/// The ids of a lot and of all lots that it descends from, in the order of their births.
+/// Returns the ids of the lot `id` and of all lots from which it descends, in the order of their births.
 pub(crate) fn lineage_ids(alloc: Global, history: &History, id: &Name) -> Result<Names, AllocError>
     ensures { IfOk result (λ ids. ids.items ≡ ids_of (lineage id.now history.now)) }
 {
@@ -17,8 +17,8 @@ pub(crate) fn lineage_ids(alloc: Global, history: &History, id: &Name) -> Result
     Names::copy_of(alloc, &ids)
 }
 
-/// The ids of a lot and of all lots that it descends from, from the last birth to the first. A lot's origins stand before
-/// it, so the last of the places that are pending is never wanted again.
+/// Returns the ids of the lot `id` and of all lots from which it descends, from the last birth to the first. The
+/// origins of a lot come before it, so a pending index that was removed never comes back.
 fn ids_down(alloc: Global, history: &History, id: &Name) -> Result<Vec<Name>, AllocError>
     ensures { IfOk result (λ ids. reverse ids.items ≡ ids_of (lineage id.now history.now)) }
 {
@@ -34,7 +34,7 @@ fn ids_down(alloc: Global, history: &History, id: &Name) -> Result<Vec<Name>, Al
     Ok(ids)
 }
 
-/// Adds the places of the lots with some ids, as far as they are there.
+/// Adds the indexes of the lots `ids` to `places`, each if it is in `history`.
 fn add_places(
     places: &mut BTreeSet<usize>,
     history: &History,
@@ -48,7 +48,7 @@ fn add_places(
     Ok(())
 }
 
-/// Adds the place of the lot with an id, if it is there.
+/// Adds the index of the lot `id` to `places`, if it is in `history`.
 fn add_place(places: &mut BTreeSet<usize>, history: &History, id: &Name) -> Result<(), AllocError>
     ensures { OnOk result (AddsPlaces (id.now ∷ []) history.now places.old.keys places.new.keys) }
 {

@@ -1,4 +1,4 @@
-//! Lists of lots in which an id is found at once, and whose room contracts see.
+//! A list of lots with an index by id. A contract sees its spare capacity.
 ghost use Rattle.std.specs.Prelude.{◌≡◌, ◌+◌, ◌-◌, ◌<◌, ◌≤◌, [], ◌∷◌, ◌++◌, false, None, map, length, slice_get, vec_len, vec_capacity, IfSome, OnOk};
 ghost use Rattle.std.specs.List.{AllByRecursion};
 ghost use Rattle.std.specs.Option.{option_and_then};
@@ -13,14 +13,14 @@ use rp_lists::Name;
 use std::alloc::{AllocError, Global};
 use std::marker::Model;
 
-/// Lots in the order of their births. A contract sees them without parts, and in `spare` how many more there is room
-/// for.
+/// Lots in the order of their births. A contract sees lots without parts, and in `spare` how many more lots there is
+/// room for.
 #[derive(Drop)]
 pub(crate) struct LotList {
     lots: Vec<LotLine>,
-    // The ids in the same order, so that the place of an id is the place of its lot.
+    // The ids in the order of the lots, so the index of an id is the index of its lot.
     places: IndexSet<Name>,
-    // The places of the live lots, in rising order.
+    // The indexes of the live lots, in rising order.
     live: Vec<usize>,
 }
 
@@ -38,7 +38,7 @@ impl Model for LotList {
 }
 
 impl LotList {
-    /// No lots. Takes no memory.
+    /// Returns the empty list. Takes no memory.
     pub(crate) fn new(alloc: Global) -> LotList
         ensures { result.lots ≡ [] }
     {
@@ -49,7 +49,7 @@ impl LotList {
         }
     }
 
-    /// Makes room for `n` more lots. In any case the lots stay.
+    /// Makes room for `n` more lots. The lots stay in any case.
     pub(crate) fn reserve(&mut self, n: usize) -> Result<(), AllocError>
         ensures lots { self.new.lots ≡ self.old.lots }
         ensures ok { OnOk result (n ≤ self.new.spare) }
@@ -59,7 +59,7 @@ impl LotList {
         self.live.reserve(n)
     }
 
-    /// Puts a live lot with a new id last. There is room for it.
+    /// Appends `lot`, which is live and has a new id. The caller has made room for it.
     pub(crate) fn push(&mut self, lot: LotLine)
         requires room { 0 < self.old.spare }
         requires live { lot.ended ≡ None }
@@ -72,7 +72,7 @@ impl LotList {
         self.lots.push(lot).unwrap();
     }
 
-    /// Ends a lot at the line, where it is live. The room stays.
+    /// Ends the lot `id` at `line`, if it is live. The spare capacity stays.
     pub(crate) fn end(&mut self, line: u32, id: &Name)
         ensures lots { self.new.lots ≡ map (ended_at line (id.now ∷ [])) self.old.lots }
         ensures spare { self.old.spare ≤ self.new.spare }
@@ -83,21 +83,21 @@ impl LotList {
         }
     }
 
-    /// The lots in order.
+    /// Returns the lots in order.
     pub(crate) fn lots(&self) -> &[LotLine]
         ensures { map lot_of result.now ≡ self.now.lots }
     {
         &self.lots
     }
 
-    /// The places of the live lots, in rising order.
+    /// Returns the indexes of the live lots, in rising order.
     pub(crate) fn live(&self) -> &[usize]
         ensures { result.now ≡ live_places None 0 self.now.lots }
     {
         &self.live
     }
 
-    /// The place of a lot. `None` exactly where there is no lot with the id.
+    /// Returns the index of the lot `id`; `None` iff there is none.
     pub(crate) fn place_of(&self, id: &Name) -> Option<usize>
         ensures lot { option_and_then (λ k. slice_get self.now.lots k) result ≡ lot_with_id id.now self.now.lots }
         ensures within { IfSome result (λ k. k < length self.now.lots) }
@@ -105,7 +105,7 @@ impl LotList {
         self.places.get_index_of(id)
     }
 
-    /// The place of a live lot. `None` exactly where the id isn't live.
+    /// Returns the index of the live lot `id`; `None` iff it is not live.
     pub(crate) fn live_place(&self, id: &Name) -> Option<usize>
         ensures lot { option_and_then (λ k. slice_get self.now.lots k) result ≡ live_lot id.now self.now.lots }
         ensures within { IfSome result (λ k. k < length self.now.lots) }
@@ -119,7 +119,7 @@ impl LotList {
     }
 }
 
-/// Takes a place out of rising places, of which it is one. The room stays.
+/// Removes `place` from the rising list `places`, in which it is. The spare capacity stays.
 fn take_out(places: &mut Vec<usize>, place: usize)
     requires rising { AreRising places.old.items }
     requires there { IsOneOf places.old.items place }

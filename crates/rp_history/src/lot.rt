@@ -5,7 +5,8 @@ ghost use Rattle.rp_history.specs.Lots.{lot_of};
 
 use rp_lists::{Name, Names};
 
-/// What a history tells of a lot: its layer, the lines of its birth and of its end, and the lots that it was made from.
+/// An entry of the history of a lot: its layer, the lines of its birth and of its end, and the lots from which it was
+/// made.
 #[derive(Drop)]
 pub struct LotLine {
     pub id: Name,
@@ -16,7 +17,7 @@ pub struct LotLine {
 }
 
 impl LotLine {
-    /// Whether the lot was born at `line` or before, and wasn't ended at `line` or before.
+    /// Returns whether the lot was born at `line` or before, and was not ended at `line` or before.
     pub fn is_alive_after(&self, line: u32) -> bool
         ensures { result ≡ is_alive_after line (lot_of self.now) }
     {
@@ -28,7 +29,7 @@ impl LotLine {
     }
 }
 
-/// A lot that is to be born: its id, its layer and the lots that it is made from.
+/// A lot to be born: its id, its layer and the lots from which it is made.
 #[derive(Drop)]
 pub struct Birth {
     pub id: Name,

@@ -1,4 +1,4 @@
--- Counts of faults: how often a read or a write has failed, a number that never falls and stays at its last value.
+-- Counts of faults: the number of reads or writes that failed. A count never falls, and stays at its last value.
 use Rattle.std.specs.Prelude.{ℕ, ◌+◌, ◌≤◌, min}
 
 -- the greatest count, at which a count stays
@@ -9,6 +9,6 @@ last_count = 18446744073709551615
 abbrev pub next_count : ℕ → ℕ
 next_count count = min (count + 1) last_count
 
--- the count rose: the new one is greater, or it stands at its last value
+-- the count rose: the new one is greater, or is the last value
 abbrev pub HasRisen : ℕ → ℕ → Type 0
 HasRisen old new = next_count old ≤ new

@@ -20,7 +20,7 @@ pub record MemoryInput : Type 0 where
 abbrev pub IsListed : MemoryInput → Type 0
 IsListed input = Contains input.failing (next_count input.calls)
 
--- as many bytes as the next read gives to a buffer of this length, if it does not fail
+-- the number of bytes that the next read gives to a buffer of this length, if it does not fail
 abbrev pub read_count : MemoryInput → ℕ → ℕ
 read_count input room = min input.step (min room (length input.left))
 
@@ -37,24 +37,24 @@ pub record MemoryOutput : Type 0 where
   -- how many of them failed
   pub faults : ℕ
 
--- what the first entry for the call says, if there is one
+-- the value of the first entry for the call, if there is one
 abbrev pub entry_of : ℕ → List (ℕ × ℕ) → Option ℕ
 entry_of call entries = option_map (λ entry. entry.1) (find (λ entry. entry.0 == call) entries)
 
--- what the first entry for the next put says, if there is one
+-- the value of the first entry for the next put, if there is one
 abbrev pub next_entry : MemoryOutput → Option ℕ
 next_entry output = entry_of (next_count output.calls) output.failing
 
--- as many bytes of a piece of this length as fit
+-- the number of bytes of a piece of this length that fit
 abbrev pub fitting_count : MemoryOutput → ℕ → ℕ
 fitting_count output len = min len (output.room - length output.bytes)
 
--- as many bytes of a piece of this length as the next put appends
+-- the number of bytes of a piece of this length that the next put appends
 abbrev pub put_count : MemoryOutput → ℕ → ℕ
 put_count output len =
     let fitting = fitting_count output len in option_map_or (λ most. min most fitting) (next_entry output) fitting
 
--- a sink that keeps what fits and never fails
+-- a sink that stores what fits and never fails
 pub record QuietOutput : Type 0 where
   -- the bytes kept
   pub bytes : List ℕ

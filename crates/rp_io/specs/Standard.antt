@@ -1,4 +1,4 @@
--- What a source over a reader and a sink over a writer hold, and how many of their calls failed.
+-- The reader of a source and the writer of a sink, and the number of their calls that failed.
 use Rattle.std.specs.Prelude.{ℕ}
 use Rattle.rp_io.specs.declared.standard.StdSource.{StdSource}
 use Rattle.rp_io.specs.declared.standard.StdSink.{StdSink}
@@ -7,7 +7,7 @@ use Rattle.rp_io.specs.declared.standard.StdSink.{StdSink}
 abbrev pub reader_of : {R : Type 0} → StdSource R → R
 reader_of source = source.reader
 
--- how many reads of a source failed
+-- the number of reads of a source that failed
 abbrev pub read_faults : {R : Type 0} → StdSource R → ℕ
 read_faults source = source.faults
 
@@ -15,6 +15,6 @@ read_faults source = source.faults
 abbrev pub writer_of : {W : Type 0} → StdSink W → W
 writer_of sink = sink.writer
 
--- how many puts of a sink failed
+-- the number of puts of a sink that failed
 abbrev pub put_faults : {W : Type 0} → StdSink W → ℕ
 put_faults sink = sink.faults

@@ -1,4 +1,4 @@
-//! A sink that holds bytes back, so that another one takes them in large pieces.
+//! A sink that buffers bytes, so another sink receives them in large pieces.
 ghost use Rattle.std.specs.Prelude.{◌≡◌, ◌≤◌, ◌<◌, ◌++◌, [], vec_len, vec_capacity, IfOk, OnErr, OnOk};
 ghost use Rattle.rp_io.specs.Bytes.{Appends, AppendsPrefix};
 ghost use Rattle.rp_io.specs.Faults.{HasRisen, last_count, next_count};
@@ -7,14 +7,14 @@ use super::failed::Failed;
 use super::sink::{Sink, append};
 use std::alloc::{AllocError, Global};
 
-/// The most bytes that a [`BufferedSink`] holds back.
+/// The most bytes that a [`BufferedSink`] buffers.
 const BUFFER_LENGTH: usize = 65_536;
 
-/// A sink that holds back up to 65,536 bytes, and puts them into another sink if a piece does not fit after them, and by
+/// A sink that buffers up to 65,536 bytes. It puts them into another sink if a piece does not fit after them, and by
 /// [`BufferedSink::finish`].
 ///
-/// It tells the bytes of the other sink with those that it holds back, until a put to the other sink fails. After that it
-/// takes nothing, so the other sink has a prefix of all bytes.
+/// A contract sees the bytes of the other sink followed by the buffered ones, until a put to the other sink fails.
+/// After that the buffered sink accepts nothing, so the other sink has a prefix of all bytes.
 #[derive(Drop)]
 pub struct BufferedSink<K> {
     sink: K,
@@ -28,10 +28,11 @@ pub struct BufferedSink<K> {
 impl<K: Drop> BufferedSink<K> {
     ghost use Rattle.rp_io.specs.Buffered.{buffered_faults, held_bytes, other_sink};
 
-    /// Returns a sink that holds no byte back from `sink`, with no fault so far. Its memory is taken here.
+    /// Returns a sink over `sink` with an empty buffer and no fault so far. Its memory is taken here.
     ///
     /// # Errors
-    /// `AllocError` if there is not enough memory.
+    ///
+    /// `AllocError` if memory runs out.
     pub fn new(alloc: Global, sink: K) -> Result<BufferedSink<K>, AllocError>
         ensures sink { IfOk result (λ buffered. other_sink buffered ≡ sink) }
         ensures held { IfOk result (λ buffered. held_bytes buffered ≡ []) }
@@ -47,7 +48,7 @@ impl<K: Drop> BufferedSink<K> {
 }
 
 impl<K> BufferedSink<K> {
-    /// Counts a fault if `outcome` is one, and returns it.
+    /// Counts a fault if `outcome` is an error, and returns `outcome`.
     fn counted(&mut self, outcome: Result<(), Failed>) -> Result<(), Failed>
         ensures outcome { result ≡ outcome }
         ensures sink { self.new.sink ≡ self.old.sink }
@@ -65,7 +66,7 @@ impl<K> BufferedSink<K> {
 impl<K: Sink> BufferedSink<K> {
     ghost use Rattle.rp_io.specs.Buffered.{buffered_faults, held_bytes, other_sink, with_held};
 
-    /// Puts the bytes that are held back into the other sink, if no put to it failed before.
+    /// Puts the buffered bytes into the other sink, if no put to it failed before.
     fn write_held(&mut self) -> Result<(), Failed>
         ensures was_whole { OnOk result (self.old.faults ≡ 0) }
         ensures ok { OnOk result (Appends (K.said self.old.sink) (K.said self.new.sink) self.old.held.items) }
@@ -81,7 +82,8 @@ impl<K: Sink> BufferedSink<K> {
         Ok(())
     }
 
-    /// Holds `piece` back, or puts it into the other sink if it is longer than what may be held back.
+    /// Buffers `piece`. If it does not fit, the buffered bytes are put into the other sink first; a piece of more than
+    /// 65,536 bytes follows them there.
     fn take(&mut self, piece: &[u8]) -> Result<(), Failed>
         ensures was_whole { OnOk result (self.old.faults ≡ 0) }
         ensures ok { OnOk result (Appends (with_held (K.said self.old.sink) self.old.held.items) (with_held (K.said self.new.sink) self.new.held.items) piece.now) }
@@ -101,10 +103,12 @@ impl<K: Sink> BufferedSink<K> {
         Ok(())
     }
 
-    /// Puts the bytes that are held back into the other sink.
+    /// Puts the buffered bytes into the other sink.
     ///
     /// # Errors
-    /// `Failed` if that put fails, or if an earlier put to the other sink did. Then the other sink has a prefix of all bytes.
+    ///
+    /// `Failed` if this put fails, or an earlier put to the other sink did. The other sink then has a prefix of all
+    /// bytes.
     pub fn finish(&mut self) -> Result<(), Failed>
         ensures was_whole { OnOk result (buffered_faults self.old ≡ 0) }
         ensures ok { OnOk result (Appends (K.said (other_sink self.old)) (K.said (other_sink self.new)) (held_bytes self.old)) }
@@ -124,8 +128,12 @@ impl<K: Sink> Sink for BufferedSink<K> {
 
     ghost faults = { buffered_faults };
 
-    /// Holds `piece` back. If `piece` does not fit, the bytes before it are put into the other sink first, and a piece of more than
-    /// 65,536 bytes after them.
+    /// Buffers `piece`. If it does not fit, the buffered bytes are put into the other sink first; a piece of more than
+    /// 65,536 bytes follows them there.
+    ///
+    /// # Errors
+    ///
+    /// `Failed` if a put to the other sink fails, or an earlier one did.
     fn put(&mut self, piece: &[u8]) -> Result<(), Failed>
         ensures counts { buffered_faults self.old ≤ buffered_faults self.new }
         ensures limit { buffered_faults self.new ≤ last_count }

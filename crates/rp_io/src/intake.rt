@@ -1,4 +1,4 @@
-//! A source read whole.
+//! Reading a source to its end.
 ghost use Rattle.std.specs.Prelude.{◌≡◌, ◌≤◌, length, vec_len, IfErr, IfOk};
 ghost use Rattle.rp_io.specs.declared.intake.IntakeFault.TheVariants.{Failed, Memory};
 ghost use Rattle.rp_io.specs.Intake.{IsWhole, HasCause};
@@ -7,15 +7,15 @@ use super::failed::Failed;
 use super::source::Source;
 use std::alloc::{AllocError, Global};
 
-/// The most bytes that one read is asked for.
+/// The most bytes of one read.
 const PIECE_LENGTH: usize = 65_536;
 
-/// Why a source was not read whole.
+/// The reason why a source was not read to its end.
 #[derive(Clone, Copy, Debug, PartialEq, Eq)]
 pub enum IntakeFault {
     /// A read failed.
     Failed,
-    /// The source gave a byte past the limit.
+    /// The source has more bytes than the limit.
     TooLong,
     /// Memory ran out.
     Memory(AllocError),
@@ -37,16 +37,18 @@ impl From<AllocError> for IntakeFault {
     }
 }
 
-/// A buffer of this many bytes.
+/// Returns a buffer of `length` zero bytes.
 fn zeros(alloc: Global, length: usize) -> Result<Vec<u8>, AllocError>
     ensures { IfOk result (λ buffer. vec_len buffer ≡ length) }
 {
     vec![in alloc; 0u8; length]
 }
 
-/// Reads a source to its end, in pieces: all its bytes, of which there may be `limit`.
+/// Reads `source` to its end, in pieces, and returns all its bytes, at most `limit`.
 ///
-/// Answers [`IntakeFault::TooLong`] as soon as the source gives a byte past the limit; then no read failed.
+/// # Errors
+///
+/// `Failed` if a read failed. `TooLong` as soon as the source gives a byte past the limit. `Memory` if memory runs out.
 pub fn read_whole<S: Source>(
     alloc: Global,
     source: &mut S,

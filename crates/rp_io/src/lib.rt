@@ -1,12 +1,11 @@
 #![tactic(auto)]
-//! Where bytes come from and where they go, with faults.
+//! Sources and sinks of bytes, with faults.
 //!
 //! A [`Source`] gives bytes and a [`Sink`] takes them. Each counts its faults, the reads or writes that failed, and
-//! answers [`Failed`] only where that count rose in the call. A read takes the next bytes; a put appends its piece, or
-//! where it fails a prefix of it. [`read_whole`] reads a source to its end, up to a limit, and [`BufferedSink`] holds bytes back,
-//! so that another sink takes them in large pieces. The forms in memory fail exactly where they are told to, or where their
-//! room ends; the tests pin what each form tells of its bytes and faults. Calls that answer `AllocError` do so only for want of
-//! memory.
+//! returns [`Failed`] only if this count rose in the call. A read takes the next bytes. A put appends its piece; if it
+//! fails, it appends a prefix of the piece. [`read_whole`] reads a source to its end, up to a limit. [`BufferedSink`]
+//! buffers bytes, so another sink receives them in large pieces. The forms in memory fail only as their lists of
+//! failing calls say, or when their room is full. A call returns `AllocError` only if memory runs out.
 
 mod buffered;
 mod failed;

@@ -7,11 +7,11 @@ use super::failed::Failed;
 use std::alloc::{AllocError, Global};
 use std::marker::Model;
 
-/// Takes bytes in order.
+/// A sink, which takes bytes in order.
 ///
-/// A contract sees `said`, the bytes so far where the sink tells them, and `faults`, a count of the
-/// puts that failed. The count never falls, and stays at 18446744073709551615. A sink may stop
-/// telling its bytes, and does not begin again.
+/// A contract sees `said`, the bytes so far if the sink knows them, and `faults`, the number of puts that failed. The
+/// number never falls, and stays at 18446744073709551615. A sink may stop knowing its bytes, and then never knows them
+/// again.
 pub trait Sink {
     ghost said: { Self → Option (List ℕ) };
 
@@ -19,8 +19,9 @@ pub trait Sink {
 
     /// Appends `piece`.
     ///
-    /// Answers [`Failed`] only where the count of faults rose in this call. Then a prefix of
-    /// `piece` was appended.
+    /// # Errors
+    ///
+    /// `Failed` only if the count of faults rose in this call. A prefix of `piece` was then appended.
     fn put(&mut self, piece: &[u8]) -> Result<(), Failed>
         ensures counts { faults self.old ≤ faults self.new }
         ensures limit { faults self.new ≤ last_count }
@@ -30,9 +31,9 @@ pub trait Sink {
         ensures err { OnErr result (AppendsPrefix (said self.old) (said self.new) piece.now) };
 }
 
-/// A sink with room for so many bytes in memory, some of whose puts fail.
+/// A sink in memory with room for a number of bytes, some of whose puts fail.
 ///
-/// It tells its bytes.
+/// A contract always sees its bytes.
 #[derive(Drop)]
 pub struct MemorySink<'a> {
     bytes: Vec<u8>,
@@ -58,8 +59,13 @@ impl<'a> Model for MemorySink<'a> {
 }
 
 impl<'a> MemorySink<'a> {
-    /// A sink with room for `room` bytes, whose memory is taken here. Each entry of `failing` is the number of a put
-    /// that fails, counted from 1, and the most bytes that it appends. The first of two entries for one put counts.
+    /// Returns a sink with room for `room` bytes, whose memory is taken here. Each entry of `failing` is the number of
+    /// a put that fails, counted from 1, and the most bytes that this put appends. Of two entries for one put, the
+    /// first counts.
+    ///
+    /// # Errors
+    ///
+    /// `AllocError` if memory runs out.
     pub fn new(
         alloc: Global,
         room: usize,
@@ -82,7 +88,7 @@ impl<'a> MemorySink<'a> {
         })
     }
 
-    /// The bytes so far.
+    /// Returns the bytes so far.
     pub fn bytes(&self) -> &[u8]
         ensures { result.now ≡ self.now.bytes }
     {
@@ -95,9 +101,13 @@ impl Sink for MemorySink<'_> {
 
     ghost faults = { λ s. s.faults };
 
-    /// Fails exactly where the number of this put is listed or the piece does not fit in the room
-    /// that is left. A listed put appends as many bytes as the least of its entry, the piece's
-    /// length and the room left, and any other appends what fits.
+    /// Appends `piece`.
+    ///
+    /// # Errors
+    ///
+    /// `Failed` iff the number of this put is in the list of failing puts, or the piece does not fit in the room that
+    /// is left. A put in the list appends as many bytes as the least of its entry, the piece's length and the room
+    /// left. Any other put that fails appends what fits.
     fn put(&mut self, piece: &[u8]) -> Result<(), Failed>
         ensures counts { self.old.faults ≤ self.new.faults }
         ensures limit { self.new.faults ≤ last_count }
@@ -133,9 +143,9 @@ impl Sink for MemorySink<'_> {
     }
 }
 
-/// A sink that never fails. It keeps as many bytes as it has room for, and a mark that more came.
+/// A sink that never fails. It stores as many bytes as it has room for, and whether more came.
 ///
-/// It tells its bytes as long as its room was not passed. Its count of faults is 0.
+/// A contract sees its bytes as long as no more came than it has room for. Its count of faults is 0.
 #[derive(Drop)]
 pub struct QuietSink {
     bytes: Vec<u8>,
@@ -152,7 +162,11 @@ impl Model for QuietSink {
 }
 
 impl QuietSink {
-    /// A sink with room for `room` bytes, whose memory is taken here.
+    /// Returns a sink with room for `room` bytes, whose memory is taken here.
+    ///
+    /// # Errors
+    ///
+    /// `AllocError` if memory runs out.
     pub fn new(alloc: Global, room: usize) -> Result<QuietSink, AllocError>
         ensures { IfOk result (λ sink. sink ≡ record { bytes = []; room = room; is_passed = false }) }
     {
@@ -163,7 +177,7 @@ impl QuietSink {
         })
     }
 
-    /// The bytes kept: the first that came, as many as there is room for.
+    /// Returns the stored bytes: the first that came, as many as there is room for.
     pub fn bytes(&self) -> &[u8]
         ensures { result.now ≡ self.now.bytes }
     {
@@ -176,7 +190,7 @@ impl Sink for QuietSink {
 
     ghost faults = { λ _. 0 };
 
-    /// Keeps the bytes that there is room for.
+    /// Stores the bytes of `piece` that there is room for.
     fn put(&mut self, piece: &[u8]) -> Result<(), Failed>
         ensures succeeds { IsOk result }
         ensures kept { self.new.bytes ≡ take self.old.room (self.old.bytes ++ piece.now) }
@@ -193,7 +207,7 @@ impl Sink for QuietSink {
     }
 }
 
-// What the first entry for a call says, if there is one.
+// Returns the value of the first entry for `call`; `None` iff there is none.
 fn entry_of(entries: &[(u32, usize)], call: u64) -> Option<usize>
     ensures { result ≡ entry_of call entries.now }
 {
@@ -203,7 +217,7 @@ fn entry_of(entries: &[(u32, usize)], call: u64) -> Option<usize>
         .map(|entry| entry.1)
 }
 
-// Appends a piece that there is room for.
+// Appends `piece`, for which there is room, to `bytes`.
 pub(super) fn append(bytes: &mut Vec<u8>, piece: &[u8])
     requires { vec_len bytes.old + length piece.now ≤ vec_capacity bytes.old }
     ensures items { bytes.new.items ≡ bytes.old.items ++ piece.now }

@@ -6,20 +6,22 @@ ghost use Rattle.rp_io.specs.Memory.{MemoryInput, IsListed, read_count};
 use super::failed::Failed;
 use std::marker::Model;
 
-/// Bytes that come in order.
+/// A source, which gives bytes in order.
 ///
-/// A contract sees `left`, the bytes still to come where the source tells them, and `faults`, a
-/// count of the reads that failed. The count never falls, and stays at 18446744073709551615.
+/// A contract sees `left`, the bytes still to come if the source knows them, and `faults`, the number of reads that
+/// failed. The number never falls, and stays at 18446744073709551615.
 pub trait Source {
     ghost left: { Self → Option (List ℕ) };
 
     ghost faults: { Self → ℕ };
 
-    /// Puts the next bytes at the front of `buf` and answers how many they are. `Ok(0)` for a
-    /// nonempty buffer is the end of the input.
+    /// Puts the next bytes at the front of `buf` and returns how many they are. `Ok(0)` for a nonempty buffer is the
+    /// end of the input.
     ///
-    /// Answers [`Failed`] only where the count of faults rose in this call. Then nothing is said of
-    /// the bytes still to come, nor of those in the buffer. Otherwise the count stays.
+    /// # Errors
+    ///
+    /// `Failed` only if the count of faults rose in this call. The contract then says nothing of the bytes still to
+    /// come, nor of those in the buffer. Otherwise the count stays.
     fn read(&mut self, buf: &mut [u8]) -> Result<usize, Failed>
         ensures counts { faults self.old ≤ faults self.new }
         ensures limit { faults self.new ≤ last_count }
@@ -33,7 +35,7 @@ pub trait Source {
 
 /// A source over bytes in memory, some of whose reads fail.
 ///
-/// It tells the bytes still to come.
+/// A contract always sees the bytes still to come.
 #[derive(Drop)]
 pub struct MemorySource<'a> {
     left: &'a [u8],
@@ -58,8 +60,8 @@ impl<'a> Model for MemorySource<'a> {
 }
 
 impl<'a> MemorySource<'a> {
-    /// A source that gives `bytes`, at most `step` of them in a read. The reads whose numbers are
-    /// in `failing`, counted from 1, fail.
+    /// Returns a source that gives `bytes`, at most `step` of them in a read. The reads whose numbers are in `failing`,
+    /// counted from 1, fail.
     pub fn new(bytes: &'a [u8], step: usize, failing: &'a [u32]) -> MemorySource<'a>
         requires { 1 ≤ step }
         ensures { result ≡ record {
@@ -85,9 +87,12 @@ impl Source for MemorySource<'_> {
 
     ghost faults = { λ s. s.faults };
 
-    /// Fails exactly where the number of this read is listed, and then takes nothing. Otherwise it
-    /// gives as many bytes as the least of the step, the buffer's length and the number of bytes
-    /// left.
+    /// Puts the next bytes at the front of `buf` and returns their number: the least of the step, the buffer's length
+    /// and the number of bytes left.
+    ///
+    /// # Errors
+    ///
+    /// `Failed` iff the number of this read is in the list of failing reads. No byte is then taken.
     fn read(&mut self, buf: &mut [u8]) -> Result<usize, Failed>
         ensures counts { self.old.faults ≤ self.new.faults }
         ensures limit { self.new.faults ≤ last_count }
@@ -124,10 +129,10 @@ impl Source for MemorySource<'_> {
     }
 }
 
-/// A source over bytes in memory that never fails. A read gives all bytes that are left, or as many
-/// as the buffer has room for.
+/// A source over bytes in memory that never fails. A read gives all bytes that are left, or as many as the buffer has
+/// room for.
 ///
-/// A contract sees it as the bytes still to come, which it tells. Its count of faults is 0.
+/// A contract sees it as the bytes still to come. Its count of faults is 0.
 #[derive(Drop)]
 pub struct QuietSource<'a> {
     left: &'a [u8],
@@ -140,7 +145,7 @@ impl<'a> Model for QuietSource<'a> {
 }
 
 impl<'a> QuietSource<'a> {
-    /// A source that gives these bytes.
+    /// Returns a source that gives `bytes`.
     pub fn new(bytes: &'a [u8]) -> QuietSource<'a>
         ensures { result ≡ bytes.now }
     {
@@ -166,14 +171,14 @@ impl Source for QuietSource<'_> {
     }
 }
 
-// Whether the number of a call is listed.
+// Returns whether the number `call` is in `failing`.
 fn is_listed(failing: &[u32], call: u64) -> bool
     ensures { IsTrue result ↔ Contains failing.now call }
 {
     failing.iter().any(|listed| u64::from(*listed) == call)
 }
 
-// Copies the front of one slice to another, at most so many bytes, and answers how many.
+// Copies the front of `from` to `to`, at most `most` bytes, and returns their number.
 fn copy_front(from: &[u8], most: usize, to: &mut [u8]) -> usize
     ensures count { result ≡ min most (min (length to.old) (length from.now)) }
     ensures copied { to.new ≡ take result from.now ++ drop result to.old }

@@ -11,7 +11,7 @@ use std::io::{Read, Write};
 
 /// A source over a reader of std, such as standard input.
 ///
-/// It tells nothing of the bytes to come.
+/// A contract does not see the bytes to come.
 #[derive(Debug, Drop)]
 pub struct StdSource<R> {
     reader: R,
@@ -22,7 +22,7 @@ pub struct StdSource<R> {
 impl<R> StdSource<R> {
     ghost use Rattle.rp_io.specs.Standard.{reader_of, read_faults};
 
-    /// A source over this reader, with no fault so far.
+    /// Returns a source over `reader`, with no fault so far.
     pub fn new(reader: R) -> StdSource<R>
         ensures reader { reader_of result ≡ reader }
         ensures faults { read_faults result ≡ 0 }
@@ -38,7 +38,11 @@ impl<R: Read> Source for StdSource<R> {
 
     ghost faults = { read_faults };
 
-    /// Makes one read of the reader. An error there, of any kind, is a fault.
+    /// Reads once from the reader.
+    ///
+    /// # Errors
+    ///
+    /// `Failed` if the reader returns any error.
     fn read(&mut self, buf: &mut [u8]) -> Result<usize, Failed>
         ensures counts { read_faults self.old ≤ read_faults self.new }
         ensures limit { read_faults self.new ≤ last_count }
@@ -65,7 +69,7 @@ impl<R: Read> Source for StdSource<R> {
 
 /// A sink over a writer of std, such as standard output.
 ///
-/// It tells nothing of the bytes so far.
+/// A contract does not see the bytes so far.
 #[derive(Debug, Drop)]
 pub struct StdSink<W> {
     writer: W,
@@ -76,7 +80,7 @@ pub struct StdSink<W> {
 impl<W> StdSink<W> {
     ghost use Rattle.rp_io.specs.Standard.{writer_of, put_faults};
 
-    /// A sink over this writer, with no fault so far.
+    /// Returns a sink over `writer`, with no fault so far.
     pub fn new(writer: W) -> StdSink<W>
         ensures writer { writer_of result ≡ writer }
         ensures faults { put_faults result ≡ 0 }
@@ -92,8 +96,11 @@ impl<W: Write> Sink for StdSink<W> {
 
     ghost faults = { put_faults };
 
-    /// Writes the piece, in as many writes as it takes, and flushes. An error of any kind is a
-    /// fault, and so is a write that takes nothing of what is left of the piece.
+    /// Writes `piece`, in as many writes as needed, and flushes.
+    ///
+    /// # Errors
+    ///
+    /// `Failed` if a write or the flush returns any error, or a write accepts nothing of a nonempty rest.
     fn put(&mut self, piece: &[u8]) -> Result<(), Failed>
         ensures counts { put_faults self.old ≤ put_faults self.new }
         ensures limit { put_faults self.new ≤ last_count }
@@ -115,7 +122,7 @@ impl<W: Write> Sink for StdSink<W> {
     }
 }
 
-// Writes all of the piece, and flushes.
+// Writes all of `piece` to `writer`, and flushes.
 fn write_whole<W: Write>(writer: &mut W, piece: &[u8]) -> Result<(), Failed>
     ensures bytes { PutAppends (W.contents writer.old) (W.contents writer.new) result piece.now }
 {

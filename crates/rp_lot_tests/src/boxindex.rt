@@ -17,7 +17,7 @@ fn types_cross_threads() {
     needs_send_sync::<Quiet>();
 }
 
-/// A search with a count of its own.
+/// Searches `index` for the boxes that meet `bounds`, with a count of steps of its own.
 fn search<W: Watch, L: Ledger>(
     index: &Index,
     alloc: Global,
@@ -33,7 +33,7 @@ fn search<W: Watch, L: Ledger>(
     index.meeting(alloc, bounds, false, watch, &mut steps)
 }
 
-/// The box from z to z + 1, and from 0 to 1 on the other axes.
+/// Returns the box from z to z + 1, and from 0 to 1 on the other axes.
 fn storey(z: u16) -> IntBox {
     let z = z as i32;
     IntBox {
@@ -42,7 +42,7 @@ fn storey(z: u16) -> IntBox {
     }
 }
 
-/// Many such boxes, which all meet on x and on y, put in by no order of place.
+/// Returns an index of 1,023 storeys, which all meet on x and on y, inserted in mixed order.
 fn storeys(rt: &impl Abort, alloc: Global) -> Index {
     let mut index = Index::new(alloc);
     for i in 0..1023u32 {
@@ -69,7 +69,8 @@ fn few_nodes_are_visited_where_all_boxes_meet_on_x(rt: HostRuntime) {
     assert!(rt; index.remove(500));
 }
 
-/// A box of a street along y: all boxes meet on x, where they begin at many places, and none meets another on y.
+/// Returns the box of a house in a street along y. All houses meet on x, where they begin at many places. No two meet
+/// on y.
 fn house(number: u16) -> IntBox {
     let number = number as i32;
     let x = number * 7 % 997;
@@ -80,7 +81,7 @@ fn house(number: u16) -> IntBox {
     }
 }
 
-/// Many such boxes, put in by no order of place.
+/// Returns an index of 2,000 houses, inserted in mixed order.
 fn street(rt: &impl Abort, alloc: Global) -> Index {
     let mut index = Index::new(alloc);
     for i in 0..2000u32 {
@@ -106,7 +107,7 @@ fn few_nodes_are_visited_in_a_street(rt: HostRuntime) {
     assert!(rt; (1..=200).contains(&visits.count()));
 }
 
-/// The ids from one on.
+/// The ids that are at least a number.
 #[derive(Clone, Copy)]
 struct AtLeast(u32);
 
@@ -120,7 +121,7 @@ impl Choice for AtLeast {
     }
 }
 
-/// A search for the first id with a count of its own.
+/// Searches `index` for the first id that passes `choice`, with a count of steps of its own.
 fn first<C: Choice, W: Watch, L: Ledger>(
     index: &Index,
     bounds: &IntBox,

@@ -62,7 +62,7 @@ fn building(rt: &impl Abort, alloc: Global) -> Parcels {
     parcels
 }
 
-/// Returns a text of the proof lines and of the count of tests, which are as many.
+/// Returns a text of the proof lines. Checks that there are `count` of them, and as many tests.
 fn lines_of(rt: &impl Abort, alloc: Global, work: Work, count: usize) -> String {
     assert_eq!(rt; work.tests() as usize, count);
     let lines = work.into_proofs();

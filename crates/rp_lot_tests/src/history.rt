@@ -7,7 +7,7 @@ use rp_lists::Names;
 use std::alloc::Global;
 use std::process::Abort;
 
-/// A history with one lot, whose id is `plot`, in the layer `land`.
+/// Returns a history with one lot, whose id is `plot`, in the layer `land`.
 pub fn with_plot(rt: &impl Abort, alloc: Global) -> History
     ensures one { length result ≡ 1 }
     ensures born { AreBornBefore 2 result }

@@ -1,7 +1,8 @@
 #![tactic(auto)]
 //! Tests of lots: their boxes, their history, access and the register of the run.
 //!
-//! They use what the crates give to all, and stand apart so that no program's crate is proved with tests.
+//! They use the public functions of the crates, and are a crate of their own so that no program's crate is proved with
+//! tests.
 
 #[cfg(test)]
 mod access;

@@ -32,7 +32,7 @@ impl Bounded for Boxes {
     }
 }
 
-/// The box from x, 0, 0 to x + 10, 10, 10.
+/// Returns the box from x, 0, 0 to x + 10, 10, 10.
 fn bounds(x: i16) -> IntBox {
     let x = x as i32;
     IntBox {
@@ -41,14 +41,14 @@ fn bounds(x: i16) -> IntBox {
     }
 }
 
-/// The boxes of two parts, far from each other.
+/// Returns the boxes of two parts, far from each other.
 fn plot() -> Boxes {
     Boxes {
         boxes: [bounds(-500), bounds(10)],
     }
 }
 
-/// The boxes of one lot of the layer `land` with these parts.
+/// Returns the boxes of one lot of the layer `land` with the boxes of `plot`.
 fn boxes_of_plot(rt: &impl Abort, alloc: Global) -> LotBoxes
     ensures { AreFree (index_of result) 1 }
 {
@@ -59,7 +59,7 @@ fn boxes_of_plot(rt: &impl Abort, alloc: Global) -> LotBoxes
     boxes
 }
 
-/// How many lots of the layer `land` touch the boxes from `x` on and from 1,000 on.
+/// Returns the number of lots of the layer `land` that touch the box from `x` on or the one from 1,000 on.
 fn count_near(rt: &impl Abort, alloc: Global, history: &History, boxes: &LotBoxes, x: i16) -> usize
     requires { AreFree (index_of boxes.now) (length history.now) }
 {
@@ -81,7 +81,7 @@ fn lots_are_found_by_the_boxes_of_their_parts(rt: HostRuntime) {
     assert_eq!(rt; between, 0);
 }
 
-/// Every lot has the point.
+/// A holder for which every lot has the point.
 struct Everyone;
 
 impl Holder for Everyone {
@@ -92,7 +92,7 @@ impl Holder for Everyone {
     }
 }
 
-/// Whether the one lot of the layer `land` has the point 39/2, 1/2, 1/2, as far as its box tells.
+/// Returns whether the box of the one lot of the layer `land` has the point 39/2, 1/2, 1/2 at `moment`.
 fn is_owned(rt: &impl Abort, history: &History, boxes: &LotBoxes, moment: Moment) -> bool {
     let layer = name(b"land");
     let p = Point::new(39, 1, 1, 2).expect(rt, "no point");

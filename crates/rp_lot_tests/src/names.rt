@@ -3,7 +3,7 @@ ghost use Rattle.rp_language.specs.Name.{is_name};
 
 use rp_lists::Name;
 
-/// A name.
+/// Returns the name of `bytes`.
 pub fn name(bytes: &[u8]) -> Name
     requires { is_name bytes.now ≡ true }
 {

@@ -4,7 +4,7 @@ use rp_parallel::{Judge, judge_all};
 use std::alloc::{AllocError, Global};
 use std::sync::atomic::{AtomicBool, AtomicUsize, Ordering};
 
-/// Numbers from 0, each of which means its square.
+/// The numbers from 0, each of which is judged as its square.
 #[derive(Drop)]
 struct Squares {
     count: usize,
@@ -39,7 +39,7 @@ fn squares_come_in_order_whatever_the_grain(rt: HostRuntime) {
     }
 }
 
-/// Two items, each of which means its number. Each waits a while for the other to begin.
+/// Two items, each of which is judged as its number. Each waits a while for the other to begin.
 #[derive(Drop)]
 struct Pair {
     came: [AtomicBool; 2],
@@ -82,8 +82,8 @@ fn two_judges_meet(rt: HostRuntime) {
     }
 }
 
-/// As many items as `count` says, each of which means its number. How many are judged at once is counted, and the most
-/// of these counts.
+/// `count` items, each of which is judged as its number. The number of items judged at a time is counted, and its
+/// maximum stored.
 #[derive(Drop)]
 struct Counted {
     count: usize,

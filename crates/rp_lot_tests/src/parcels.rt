@@ -49,7 +49,7 @@ const FAR: IntBox = IntBox {
     hi: [30, 10, 10],
 };
 
-/// The region of a cell.
+/// Returns the region of a cell.
 pub fn cell_region(rt: &impl Abort, alloc: Global, cell: &[Half]) -> Region
     requires { length cell.now ≤ 64 }
 {
@@ -57,7 +57,7 @@ pub fn cell_region(rt: &impl Abort, alloc: Global, cell: &[Half]) -> Region
     Region::of_cell(alloc, cell, &mut work).expect(rt, "no region of a cell")
 }
 
-/// The region of a box.
+/// Returns the region of a box.
 fn region(rt: &impl Abort, alloc: Global, bounds: &IntBox) -> Region
     requires { is_box_in_bounds (integer_box bounds.now) ≡ true }
 {
@@ -99,14 +99,14 @@ fn register_box(
     register(rt, alloc, &Quiet, parcels, line, id, region);
 }
 
-/// A register of no parcels.
+/// Returns a register of no parcels.
 pub fn nothing(rt: &impl Abort, alloc: Global) -> Parcels
     ensures { IsLater 1 result }
 {
     Parcels::new(alloc).expect(rt, "no register")
 }
 
-/// A register with one parcel, whose id is `plot`, born at line 1 in the layer `land`.
+/// Returns a register with one parcel, whose id is `plot`, born at line 1 in the layer `land`.
 fn with_plot(rt: &impl Abort, alloc: Global) -> Parcels
     ensures { IsLater 2 result }
 {
@@ -115,7 +115,7 @@ fn with_plot(rt: &impl Abort, alloc: Global) -> Parcels
     parcels
 }
 
-/// Cuts the parcel of the first id by a region into the other two, at the line.
+/// Cuts the parcel of the first id by the region `by` into the other two, at the line.
 pub fn cut(
     rt: &impl Abort,
     alloc: Global,
@@ -132,13 +132,13 @@ pub fn cut(
     done.expect(rt, "a parcel is not cut");
 }
 
-/// The half-space askew of the points whose x and y together are at least so much.
+/// Returns the half-space of the points with x + y >= `least`.
 pub fn askew(rt: &impl Abort, alloc: Global, least: i32) -> Region {
     let half = Half::new(1, 1, 0, -(least as i64)).expect(rt, "no half-space askew");
     cell_region(rt, alloc, &[half])
 }
 
-/// Cuts the plot askew, at line 2.
+/// Cuts the plot by the half-space x + y >= 10, at line 2.
 fn cut_plot(rt: &impl Abort, alloc: Global, parcels: &mut Parcels)
     requires { IsLater 2 parcels.old }
     ensures { IsLater 3 parcels.new }
@@ -148,7 +148,7 @@ fn cut_plot(rt: &impl Abort, alloc: Global, parcels: &mut Parcels)
     cut(rt, alloc, parcels, 2, &ids, &by);
 }
 
-/// Makes the two sides of the plot one parcel, at line 3.
+/// Consolidates the two sides of the plot, at line 3.
 fn join_sides(rt: &impl Abort, alloc: Global, parcels: &mut Parcels)
     requires { IsLater 3 parcels.old }
     ensures { IsLater 4 parcels.new }
@@ -159,7 +159,7 @@ fn join_sides(rt: &impl Abort, alloc: Global, parcels: &mut Parcels)
     done.expect(rt, "the sides are not made one");
 }
 
-/// A child with the region of a box.
+/// Returns a child with the region of a box.
 fn child(rt: &impl Abort, alloc: Global, id: Name, bounds: &IntBox) -> Child
     requires { is_box_in_bounds (integer_box bounds.now) ≡ true }
 {
@@ -167,7 +167,7 @@ fn child(rt: &impl Abort, alloc: Global, id: Name, bounds: &IntBox) -> Child
     Child { id, region }
 }
 
-/// Divides that parcel into its lower and its upper half, at line 4.
+/// Subdivides the consolidated plot into its lower and its upper half, at line 4.
 fn divide_whole(rt: &impl Abort, alloc: Global, parcels: &mut Parcels)
     requires { IsLater 4 parcels.old }
     ensures { IsLater 5 parcels.new }
@@ -179,7 +179,7 @@ fn divide_whole(rt: &impl Abort, alloc: Global, parcels: &mut Parcels)
     done.expect(rt, "the whole is not divided");
 }
 
-/// The south-west corner of the plot.
+/// Returns the south-west corner of the plot.
 fn corner() -> Point {
     Point::new(0, 0, 0, 1).unwrap()
 }
@@ -203,7 +203,7 @@ fn parcels_go_from_row_to_row(rt: HostRuntime) {
     assert_eq!(rt; parcels.history().lots().len(), 6);
 }
 
-/// Lets each of two items wait a while for the other to begin.
+/// A watch that lets each of two items wait a while for the other to begin.
 #[derive(Drop)]
 struct Meeting {
     came: [AtomicBool; 2],
@@ -227,7 +227,7 @@ impl Watch for Meeting {
     }
 }
 
-/// Two items that have not met.
+/// Returns a meeting of two items that have not met.
 fn apart() -> Meeting {
     Meeting {
         came: [AtomicBool::new(false), AtomicBool::new(false)],
@@ -235,12 +235,12 @@ fn apart() -> Meeting {
     }
 }
 
-/// Whether both items met.
+/// Returns whether both items met.
 fn have_met(meeting: &Meeting) -> bool {
     meeting.met[0].load(Ordering::SeqCst) && meeting.met[1].load(Ordering::SeqCst)
 }
 
-/// The unit box in a row along x, from x on.
+/// Returns the region of the unit box whose x begins at `x`.
 fn slice(rt: &impl Abort, alloc: Global, x: u32) -> Region {
     let [_, _, south, north, bottom, top] = box_halves(&IntBox {
         lo: [0, 0, 0],
@@ -251,13 +251,13 @@ fn slice(rt: &impl Abort, alloc: Global, x: u32) -> Region {
     cell_region(rt, alloc, &[west, east, south, north, bottom, top])
 }
 
-/// The name of a box in a row.
+/// Returns the name of the box `i` of a row.
 fn in_row(rt: &impl Abort, i: u32) -> Name {
     let id = [b'p', b'0' + (i / 10 % 10) as u8, b'0' + (i % 10) as u8];
     Name::new(&id).expect(rt, "no name")
 }
 
-/// Registers the next unit box of a row.
+/// Registers the unit box `i` of a row.
 fn add_slice(rt: &impl Abort, alloc: Global, parcels: &mut Parcels, i: u32)
     requires small { i < 1000 }
     requires later { IsLater (i + 1) parcels.old }
@@ -268,7 +268,7 @@ fn add_slice(rt: &impl Abort, alloc: Global, parcels: &mut Parcels, i: u32)
     register(rt, alloc, &Quiet, parcels, i + 1, id, region);
 }
 
-/// A row of unit boxes along x, from 0 on, one at each line.
+/// Returns a register of `count` unit boxes in a row along x, from 0 on, one at each line.
 fn row(rt: &impl Abort, alloc: Global, count: u32) -> Parcels
     requires { count < 1000 }
     ensures { IsLater (count + 1) result }
@@ -318,7 +318,7 @@ fn questions_read_few(rt: HostRuntime) {
     assert!(rt; (100..=5600).contains(&all.count()));
 }
 
-/// Three plots in a row, of which the first is in the middle.
+/// Returns three plots in a row, of which the first is in the middle.
 fn three_plots(rt: &impl Abort, alloc: Global) -> Parcels {
     let mut parcels = nothing(rt, alloc);
     register_box(rt, alloc, &mut parcels, 1, name(b"a"), &PLOT);
@@ -327,7 +327,7 @@ fn three_plots(rt: &impl Abort, alloc: Global) -> Parcels {
     parcels
 }
 
-/// Registers a box at the line, and cuts it at the next one into the last two of the ids.
+/// Registers a box at the line, and cuts it at the next line into the last two of the ids.
 fn register_and_cut(
     rt: &impl Abort,
     alloc: Global,
@@ -346,7 +346,7 @@ fn register_and_cut(
     cut(rt, alloc, parcels, line + 1, ids, by);
 }
 
-/// Two plots that are cut askew: the boxes of the two sides of each meet.
+/// Returns two plots that are cut askew, so the boxes of the two sides of each meet.
 fn cut_plots(rt: &impl Abort, alloc: Global) -> Parcels {
     let mut parcels = nothing(rt, alloc);
     let (by, ids) = (askew(rt, alloc, 10), [name(b"a"), name(b"a1"), name(b"a2")]);

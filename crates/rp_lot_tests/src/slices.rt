@@ -16,7 +16,7 @@ fn slice(x: u16) -> IntBox {
     }
 }
 
-/// Returns an index of 1,023 such boxes side by side, each under its `x`.
+/// Returns an index of 1,023 slices side by side, each under its `x`.
 fn slices(rt: &impl Abort, alloc: Global) -> Index {
     let mut index = Index::new(alloc);
     for x in 0..1023u16 {
@@ -44,7 +44,7 @@ fn search<L: Ledger>(
     index.meeting(alloc, bounds, closed, visits, &mut steps)
 }
 
-/// Returns the ids whose boxes meet that of `x`, and how many nodes are visited.
+/// Returns the ids whose boxes meet that of `x`, and the number of visited nodes.
 fn meeting_ids(
     rt: &impl Abort,
     alloc: Global,

@@ -1,4 +1,4 @@
--- Where boxes are in the index of a layer: those of live lots in one cube for each turn, and those of lots that ended in further cubes, by the stretches of lines in which they lived.
+-- The positions of boxes in the index of a layer: live lots in one cube for each turn, and lots that ended in further cubes, by the stretches of lines in which they lived.
 use Rattle.std.specs.Prelude.{ℕ, ◌+◌, ◌*◌, ◌/◌, ◌%◌, Bool, cond, ◌&&◌, ℤ, pos, negsuc, ◌+ℤ◌, ◌-ℤ◌, ◌*ℤ◌, int_le, List, [], ◌∷◌}
 use Rattle.rp_geometry.specs.Geometry.{IntegerBox}
 use Rattle.rp_lotindex.specs.declared.axis.Axis.{Axis}
@@ -6,19 +6,19 @@ use Rattle.rp_lotindex.specs.declared.axis.Axis.TheVariants.{X, Y, Z}
 use Rattle.rp_lotindex.specs.declared.stretch.Stretch.{Stretch}
 use Rattle.rp_lotindex.specs.Turns.{axis_of, turned}
 
--- how far the cube of a number is moved along an axis
+-- the distance along an axis by which the cube of a number is moved
 abbrev pub step_of : ℕ → ℤ
 step_of n = ((pos n -ℤ pos 32) *ℤ pos 67108864) +ℤ pos 33554432
 
--- a coordinate is one of the domain, or next to it
+-- the coordinate is in the domain, or next to it
 abbrev pub is_near_domain : ℤ → Bool
 is_near_domain v = int_le (negsuc 16777216) v && int_le v (pos 16777217)
 
--- a lower side, moved; one outside of the domain goes as far as a machine number
+-- a lower side, moved; the least i32 if the side is far outside the domain
 abbrev pub moved_low : ℤ → ℤ → ℤ
 moved_low t v = cond (is_near_domain v) (t +ℤ v) (negsuc 2147483647)
 
--- an upper side, moved
+-- an upper side, moved; the greatest i32 if the side is far outside the domain
 abbrev pub moved_high : ℤ → ℤ → ℤ
 moved_high t v = cond (is_near_domain v) (t +ℤ v) (pos 2147483647)
 
@@ -30,7 +30,7 @@ moved_by x y z b = record { x1 = moved_low x b.x1; x2 = moved_high x b.x2; y1 = 
 unfoldable pub moved_to : ℕ → IntegerBox → IntegerBox
 moved_to n b = moved_by (step_of (n % 64)) (step_of (n / 64 % 64)) (step_of (n / 4096 % 64)) b
 
--- how far the cubes of a turn are behind the others
+-- the number by which the cubes of a turn come after those of the first turn
 abbrev pub turn_number : Axis → ℕ
 turn_number X = 0
 turn_number Y = 87403
@@ -40,11 +40,11 @@ turn_number Z = 174806
 abbrev pub moved_in : Axis → ℕ → IntegerBox → IntegerBox
 moved_in a n b = moved_to (n % 262144 + turn_number a) (turned a b)
 
--- so in its own turn
+-- a box, turned so that an axis on which it is thin comes first, and moved into the cube of a number
 abbrev pub moved_own : ℕ → IntegerBox → IntegerBox
 moved_own n b = moved_in (axis_of b) n b
 
--- so in each turn
+-- a box, moved into the cube of a number in each of the three turns
 abbrev pub in_turns : ℕ → IntegerBox → List IntegerBox
 in_turns n b = moved_in X n b ∷ moved_in Y n b ∷ moved_in Z n b ∷ []
 
@@ -60,6 +60,6 @@ moved b = moved_own live_number b
 abbrev pub past_number : Stretch → ℕ
 past_number s = 1 + s.level * 70001 + s.mark
 
--- a box in its own turn, moved into that cube
+-- a box in its own turn, moved into the cube for a stretch of lines
 abbrev pub moved_past : Stretch → IntegerBox → IntegerBox
 moved_past s b = moved_own (past_number s) b

@@ -22,7 +22,7 @@ abbrev pub joined : IntegerBox → List IntegerBox → IntegerBox
 joined b [] = b
 joined b (c ∷ cs) = joined (box_union b c) cs
 
--- the least box around some boxes; around none it is that of the cube
+-- the least box around some boxes; the cube if there are none
 abbrev pub hull_of : List IntegerBox → IntegerBox
 hull_of [] = cube_box
 hull_of (b ∷ bs) = joined b bs
@@ -31,7 +31,7 @@ hull_of (b ∷ bs) = joined b bs
 abbrev pub hull_of_parts : List Part → IntegerBox
 hull_of_parts ps = hull_of (bounds_of ps)
 
--- the boxes of a form with these parts: those of the parts, or where these are more than 16 the least one around them
+-- the boxes of a form: those of its parts; if these are more than 16, the least box around all
 abbrev pub boxes_of_parts : List Part → List IntegerBox
 boxes_of_parts ps = cond (nat_le (length ps) 16) (bounds_of ps) (hull_of_parts ps ∷ [])
 
@@ -39,17 +39,17 @@ boxes_of_parts ps = cond (nat_le (length ps) 16) (bounds_of ps) (hull_of_parts p
 abbrev pub all_moved : List IntegerBox → List IntegerBox
 all_moved bs = map moved bs
 
--- the boxes of a live lot with these parts
+-- the boxes of a live lot, from its parts
 abbrev pub boxes_of : List Part → List IntegerBox
 boxes_of ps = all_moved (boxes_of_parts ps)
 
 -- ---- the boxes of a layer
 
--- the index of a layer; a layer that has none has no boxes
+-- the index of a layer; the empty one if the layer has none
 abbrev pub index_of : LotBoxes → Label → Boxes
 index_of a y = unwrap_or (lookup (label_eq y) a.layers.entries) empty
 
--- all layers other than one have the boxes that they had
+-- all other layers have the boxes that they had
 abbrev pub OthersStay : Label → (Label → Boxes) → (Label → Boxes) → Type 0
 OthersStay y old new = (x : Label) → label_eq y x ≡ false → new x ≡ old x
 
@@ -57,49 +57,49 @@ OthersStay y old new = (x : Label) → label_eq y x ≡ false → new x ≡ old 
 abbrev pub box_at : Boxes → ℕ → Option IntegerBox
 box_at boxes id = option_map integer_box (get boxes id)
 
--- the box of a number in a list, if there is one
+-- the box with a number in a list; none if there is none
 abbrev pub box_in : Option (List IntegerBox) → ℕ → Option IntegerBox
 box_in None d = None
 box_in (Some bs) d = slice_get bs d
 
--- the box of an id among the boxes of places, each of which has 16 ids
+-- the box of an id, by the lists of boxes of the places, each of which has 16 ids
 abbrev pub box_among : List (List IntegerBox) → ℕ → Option IntegerBox
 box_among lists id = box_in (slice_get lists (id / 16)) (id % 16)
 
--- no place from one on has a box
+-- no place from n on has a box
 abbrev pub NoneBehind : Boxes → ℕ → Type 0
 NoneBehind boxes n = (id : ℕ) → n * 16 ≤ id → box_at boxes id ≡ None
 
--- the places from one on have these boxes, in order, and all earlier ones what they had
+-- the places from the first on have the given boxes, in order, and all earlier places have what they had
 pub record ArePut (old new : Boxes) (first : ℕ) (lists : List (List IntegerBox)) : Type 0 where
   pub here : (d : ℕ) → box_at new (first * 16 + d) ≡ box_among lists d
   pub rest : (id : ℕ) → id < first * 16 → box_at new id ≡ box_at old id
 
--- every place has what it had
+-- every place has the boxes that it had
 abbrev pub StaySame : Boxes → Boxes → Type 0
 StaySame old new = (id : ℕ) → box_at new id ≡ box_at old id
 
--- a place, where it has as many boxes, has other ones, and every other place has what it had
+-- the place has the new boxes, if it had equally many before; every other place has what it had
 pub record IsSettled (old new : Boxes) (place : ℕ) (bs : List IntegerBox) : Type 0 where
   pub here : (id : ℕ) → id / 16 ≡ place → is_some (box_at old id) ≡ is_some (slice_get bs (id % 16)) → box_at new id ≡ slice_get bs (id % 16)
   pub rest : (id : ℕ) → id / 16 ≢ place → box_at new id ≡ box_at old id
 
--- a place has no box any more, and every other place has the boxes that it had
+-- the place has no box, and every other place has the boxes that it had
 pub record IsTakenOut (old new : Boxes) (place : ℕ) : Type 0 where
   pub gone : (id : ℕ) → id / 16 ≡ place → box_at new id ≡ None
   pub rest : (id : ℕ) → id / 16 ≢ place → box_at new id ≡ box_at old id
 
 -- ---- the boxes of lots
 
--- where a box of a lot is: in the cube of live lots, or in that of the least stretch with its birth and its end
+-- the position of a box of a lot: the cube of live lots, or that of the least stretch with its birth and its end
 abbrev pub box_by : {S : Type 0} → Lot S → IntegerBox → IntegerBox
 box_by l b = elim l.ended [ None ↦ moved b | Some t ↦ moved_past (stretch_of l.born t) b ]
 
--- where boxes of a lot are
+-- the positions of the boxes of a lot
 abbrev pub boxes_by : {S : Type 0} → Lot S → List IntegerBox → List IntegerBox
 boxes_by l bs = map (box_by l) bs
 
--- the boxes of a lot, where they are
+-- the boxes of a lot, at their positions
 abbrev pub boxes_of_lot : {S : Type 0} → Lot S → List IntegerBox
 boxes_of_lot l = boxes_by l (boxes_of_parts l.parts)
 
@@ -123,7 +123,7 @@ IsIndexOf lots index = (y : Label) → IsIndexAt y lots (index y)
 abbrev pub AreFree : (Label → Boxes) → ℕ → Type 0
 AreFree index n = (y : Label) → NoneBehind (index y) n
 
--- new lots have their boxes in the indexes of their layers, from a place on and in order, and all earlier places have the boxes that they had
+-- the indexes have the boxes of new lots in their layers, at the places from one on, in order; all earlier places have the boxes that they had
 abbrev pub AreBorn : {S : Type 0} → (Label → Boxes) → (Label → Boxes) → ℕ → List (NewLot S) → Type 0
 AreBorn old new first lots = (y : Label) → ArePut (old y) (new y) first (map (boxes_born y) lots)
 
@@ -131,28 +131,28 @@ AreBorn old new first lots = (y : Label) → ArePut (old y) (new y) first (map (
 abbrev pub AllStay : (Label → Boxes) → (Label → Boxes) → Type 0
 AllStay old new = (y : Label) → StaySame (old y) (new y)
 
--- the layer is the one that is there, if any
+-- the layer is the given one, if there is one
 abbrev pub is_layer : Option Label → Label → Bool
 is_layer None y = false
 is_layer (Some x) y = label_eq x y
 
--- from a place on, each of some layers has no box any more at the next place, and all else is as it was
+-- from a place on, the next place has no box in its given layer, in order; everything else is as before
 pub record AreRemoved (old new : Label → Boxes) (first : ℕ) (layers : List Label) : Type 0 where
   pub gone : (y : Label) (id k : ℕ) → id / 16 ≡ first + k → is_layer (slice_get layers k) y ≡ true → box_at (new y) id ≡ None
   pub kept : (y : Label) (id k : ℕ) → id / 16 ≡ first + k → is_layer (slice_get layers k) y ≡ false → box_at (new y) id ≡ box_at (old y) id
   pub rest : (y : Label) (id : ℕ) → id < first * 16 → box_at (new y) id ≡ box_at (old y) id
 
--- in the index of a layer those lots that pass the test have their boxes, if they had as many, the others what they had, and so do all places after the last lot
+-- in the index of a layer: lots that pass the test have their boxes, if they had equally many; other lots and later places have what they had
 pub record AreSettledAt {S : Type 0} (y : Label) (lots : List (Lot S)) (test : Label → Bool) (old new : Boxes) : Type 0 where
   pub settled : (id : ℕ) (l : Lot S) → slice_get lots (id / 16) ≡ Some l → test l.id ≡ true → is_some (box_at old id) ≡ is_some (slice_get (boxes_for y l) (id % 16)) → box_at new id ≡ slice_get (boxes_for y l) (id % 16)
   pub kept : (id : ℕ) (l : Lot S) → slice_get lots (id / 16) ≡ Some l → test l.id ≡ false → box_at new id ≡ box_at old id
   pub rest : (id : ℕ) → length lots * 16 ≤ id → box_at new id ≡ box_at old id
 
--- in the index of each layer those lots that pass the test have their boxes, if they had as many, and all else is as it was
+-- in the index of each layer: lots that pass the test have their boxes, if they had equally many, and all else is as it was
 abbrev pub AreSettled : {S : Type 0} → List (Lot S) → (Label → Bool) → (Label → Boxes) → (Label → Boxes) → Type 0
 AreSettled lots test old new = (y : Label) → AreSettledAt y lots test (old y) (new y)
 
--- lots are in a history without their parts, and their boxes are in the indexes of their layers
+-- the history has the lots without their parts, and the indexes of their layers have their boxes
 pub record AreKeptIn (history : List (Lot (Unit {0}))) (index : Label → Boxes) (lots : List (Lot (Unit {0}))) : Type 0 where
   pub bare : history ≡ map bare_lot lots
   pub indexed : IsIndexOf lots index

@@ -4,11 +4,11 @@ use Rattle.rp_geometry.specs.Geometry.{IntegerBox}
 use Rattle.rp_lotindex.specs.declared.axis.Axis.{Axis}
 use Rattle.rp_lotindex.specs.declared.axis.Axis.TheVariants.{X, Y, Z}
 
--- what has these lengths on the three axes is a plate that lies flat
+-- a box of these lengths on the three axes is a plate that lies flat
 abbrev pub is_plate : ℤ → ℤ → ℤ → Bool
 is_plate x y z = int_lt (pos 64 *ℤ z) x && int_lt (pos 64 *ℤ z) y
 
--- the axis that comes first, by the lengths on all three: z for plates, y for what is thinner on y than on x, else x
+-- the axis that comes first, by the lengths on all three: z for plates, y if y is shorter than x, otherwise x
 abbrev pub axis_by : ℤ → ℤ → ℤ → Axis
 axis_by x y z = cond (is_plate x y z) Z (cond (int_lt y x) Y X)
 

@@ -1,6 +1,6 @@
-//! Which axis of a box comes first in the index: one on which the box is thin. The first tree of the index goes by the
-//! least x of boxes, and does not tell apart boxes that are long on the first axis. The second tree, by cells of space,
-//! does, but a search begins with the first tree alone.
+//! Which axis of a box comes first in the index: one on which the box is thin. The first tree of the index is sorted by
+//! the least x of boxes, and does not separate boxes that are long on the first axis. The second tree, by cells of
+//! space, does, but a search begins with the first tree alone.
 ghost use Rattle.std.specs.Prelude.{◌≡◌, ◌-ℤ◌};
 ghost use Rattle.rp_algebra.specs.Within.{IsWithin};
 ghost use Rattle.rp_space.specs.Boxes.{integer_box};
@@ -16,7 +16,7 @@ pub(crate) enum Axis {
     Z,
 }
 
-/// The axis of a box that comes first.
+/// Returns the axis of `bounds` that comes first.
 pub(crate) fn axis_of(bounds: &IntBox) -> Axis
     ensures { result ≡ axis_of (integer_box bounds.now) }
 {
@@ -25,8 +25,8 @@ pub(crate) fn axis_of(bounds: &IntBox) -> Axis
     axis_by(extent(x1, x2), extent(y1, y2), extent(z1, z2))
 }
 
-/// The axis that comes first where a box has the lengths `x`, `y` and `z`. Heights differ little from lot to lot, even
-/// where the lots are flat: so z comes first for plates alone.
+/// Returns the axis that comes first for a box of the lengths `x`, `y` and `z`. Heights differ little from lot to lot,
+/// even if the lots are flat; so z comes first only for flat plates.
 fn axis_by(x: i64, y: i64, z: i64) -> Axis
     requires z { IsWithin 4294967296 z }
     ensures { result ≡ axis_by x y z }
@@ -40,7 +40,8 @@ fn axis_by(x: i64, y: i64, z: i64) -> Axis
     }
 }
 
-/// Whether a box of the lengths `x`, `y` and `z` is a plate that lies flat.
+/// Returns whether a box of the lengths `x`, `y` and `z` is a plate that lies flat: 64 times its height is less than
+/// both other lengths.
 fn is_plate(x: i64, y: i64, z: i64) -> bool
     requires { IsWithin 4294967296 z }
     ensures { result ≡ is_plate x y z }
@@ -48,7 +49,7 @@ fn is_plate(x: i64, y: i64, z: i64) -> bool
     64 * z < x && 64 * z < y
 }
 
-/// How far it is from a lower side to an upper one.
+/// Returns the length from the lower side `low` to the upper side `high`.
 fn extent(low: i32, high: i32) -> i64
     ensures value { result ≡ high -ℤ low }
     ensures within { IsWithin 4294967296 result }
@@ -56,7 +57,7 @@ fn extent(low: i32, high: i32) -> i64
     high as i64 - low as i64
 }
 
-/// The box with the numbers of x and of an axis exchanged.
+/// Returns `bounds` with the numbers of x and of `axis` exchanged.
 pub(crate) fn turned(axis: Axis, bounds: &IntBox) -> IntBox
     ensures { integer_box result ≡ turned axis (integer_box bounds.now) }
 {

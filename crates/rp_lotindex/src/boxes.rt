@@ -1,5 +1,5 @@
-//! The boxes of lots: an index for each layer, with the boxes of its live lots in one cube and those of its lots that
-//! ended in the cubes of the stretches in which they lived.
+//! The boxes of lots: an index for each layer. Live lots of a layer have their boxes in one cube; lots that ended, in
+//! the cubes of the stretches of lines in which they lived.
 ghost use Rattle.std.specs.Prelude.{◌≡◌, ℕ, List, ◌+◌, ◌*◌, ◌/◌, ◌<◌, ◌≤◌, ◌∷◌, [], false, true, is_some, length, map, option_copied, unwrap_or, OnOk, OnErr};
 ghost use Rattle.std.specs.FinMap as map;
 ghost use Rattle.std.specs.Map.{lookup};
@@ -21,14 +21,14 @@ use rp_space::IntBox;
 use std::alloc::{AllocError, Global};
 use std::fmt;
 
-/// The ids of a place: those of its boxes and of such as it might have.
+/// The number of ids of each place of a lot, one for each box that it may have.
 const IDS: usize = 16;
 
-/// The boxes of lots, under ids of their places: an index for each layer, so that what is asked of a layer visits no box
-/// of another one, whatever their names are.
+/// The boxes of lots, under ids that their places in the history give. Each layer has an index of its own, so a search
+/// in one layer visits no box of another one.
 #[derive(Drop)]
 pub struct LotBoxes {
-    // A layer that has no index has no boxes.
+    // A layer without an index has no boxes.
     pub(crate) layers: IndexMap<Name, Index>,
 }
 
@@ -38,7 +38,7 @@ impl fmt::Debug for LotBoxes {
     }
 }
 
-/// The want of memory for which a box wasn't taken in, since there was none under its place.
+/// Returns the fault of memory for which a box was not added; its id had no box before.
 fn want_of_memory(fault: IndexFault) -> AllocError
     requires { is_known fault ≡ false }
 {
@@ -49,7 +49,7 @@ fn want_of_memory(fault: IndexFault) -> AllocError
 }
 
 impl LotBoxes {
-    /// Makes a table with no boxes. Takes no memory.
+    /// Returns the table without boxes. Takes no memory.
     pub fn new(alloc: Global) -> LotBoxes
         ensures { (y : List ℕ) → index_of result y ≡ map.empty }
     {
@@ -58,18 +58,18 @@ impl LotBoxes {
         }
     }
 
-    /// Returns the index of `layer`, if it has one; otherwise it has no boxes.
+    /// Returns the index of `layer`; `None` if the layer has no index, and so no boxes.
     pub(crate) fn index_of(&self, layer: &Name) -> Option<&Index>
         ensures { unwrap_or (option_copied result) map.empty ≡ index_of self.now layer.now }
     {
         self.layers.get(layer)
     }
 
-    /// Takes in `boxes`, those of a new lot of `layer`, which is live: at `place`, from which on the layer has none yet.
-    /// Each is moved into the cube of live lots.
+    /// Adds `boxes`, those of a new live lot of `layer`, at `place`. The layer has no box at `place` or later. Each box
+    /// is moved into the cube of live lots.
     ///
     /// # Errors
-    /// `AllocError` only for want of memory. Then all is as before.
+    /// `AllocError` if memory runs out. All boxes are then as before.
     pub fn add<B: Bounded>(
         &mut self,
         alloc: Global,
@@ -90,7 +90,7 @@ impl LotBoxes {
         }
     }
 
-    /// Makes an index for a layer that has none.
+    /// Adds an empty index for `layer`, if it has none.
     fn open(&mut self, alloc: Global, layer: &Name) -> Result<(), AllocError>
         ensures there { OnOk result (is_some (lookup (label_eq layer.now) self.new.layers.entries) ≡ true) }
         ensures same { (y : List ℕ) → index_of self.new y ≡ index_of self.old y }
@@ -101,8 +101,7 @@ impl LotBoxes {
         Ok(())
     }
 
-    /// Takes out the boxes of the lots of these births, which are at the places from `first` on, in order. Takes no
-    /// memory.
+    /// Removes the boxes of the lots of `births`, which are at the places from `first` on, in order. Takes no memory.
     pub fn remove_all(&mut self, first: usize, births: &[Birth])
         requires { first + length births.now ≤ most_kept_parts + 1 }
         ensures { AreRemoved (index_of self.old) (index_of self.new) first (map (λ b. b.layer) births.now) }
@@ -112,7 +111,7 @@ impl LotBoxes {
         }
     }
 
-    /// Takes out the boxes of the lot of `layer` at `place`. Takes no memory.
+    /// Removes the boxes of the lot of `layer` at `place`. Takes no memory.
     fn remove(&mut self, place: usize, layer: &Name)
         requires { place ≤ most_kept_parts }
         ensures gone { IsTakenOut (index_of self.old layer.now) (index_of self.new layer.now) place }
@@ -123,8 +122,9 @@ impl LotBoxes {
         }
     }
 
-    /// Moves `boxes`, those of the lot at `place`, which is `lot` in its history, to where lots are that lived as long.
-    /// If it has none, nothing changes. Takes no memory.
+    /// Moves `boxes`, those of the lot at `place`, which is `lot` in its history. A live lot has its boxes in the cube
+    /// of live lots; a lot that ended, in the cube for the lines in which it lived. If the index has none of the boxes,
+    /// nothing changes. Takes no memory.
     pub fn settle<B: Bounded>(&mut self, place: usize, lot: &LotLine, boxes: &B)
         requires small { place ≤ most_kept_parts }
         ensures settled { IsSettled (index_of self.old lot.now.layer) (index_of self.new lot.now.layer) place (boxes_by (lot_of lot.now) (B.boxes boxes.now)) }
@@ -136,7 +136,7 @@ impl LotBoxes {
     }
 }
 
-/// Takes the boxes of a live lot into the index of its layer. After `AllocError` all is as before.
+/// Adds `boxes` of the live lot at `place` to the index of its layer. After `AllocError` all boxes are as before.
 fn put_all<B: Bounded>(
     index: &mut Index,
     alloc: Global,
@@ -158,7 +158,7 @@ fn put_all<B: Bounded>(
     Ok(())
 }
 
-/// Takes the boxes of the lot at a place out of the index of its layer.
+/// Removes the boxes of the lot at `place` from the index of its layer.
 fn take_out(index: &mut Index, place: usize)
     requires { place ≤ most_kept_parts }
     ensures { IsTakenOut index.old index.new place }
@@ -168,7 +168,7 @@ fn take_out(index: &mut Index, place: usize)
     }
 }
 
-/// Moves the boxes of a lot, in the index of its layer, to where lots are that lived as long.
+/// Moves `boxes` of `lot`, which is at `place`, to the cubes that [`settled`] gives.
 fn change_all<B: Bounded>(index: &mut Index, place: usize, lot: &LotLine, boxes: &B)
     requires small { place ≤ most_kept_parts }
     ensures { IsSettled index.old index.new place (boxes_by (lot_of lot.now) (B.boxes boxes.now)) }
@@ -179,7 +179,7 @@ fn change_all<B: Bounded>(index: &mut Index, place: usize, lot: &LotLine, boxes:
     }
 }
 
-/// The id of a box of the lot at a place.
+/// Returns the id of the box `number` of the lot at `place`.
 fn id_of(place: usize, number: usize) -> u32
     requires small { place ≤ most_kept_parts }
     requires few { number < 16 }
@@ -188,14 +188,15 @@ fn id_of(place: usize, number: usize) -> u32
     (place * IDS + number) as u32
 }
 
-/// The place of the lot whose box has the id.
+/// Returns the place of the lot whose box has `id`.
 pub(crate) fn place_of(id: u32) -> usize
     ensures { result ≡ id / 16 }
 {
     id as usize / IDS
 }
 
-/// Moves a box of a lot to where lots are that lived as long.
+/// Returns `bounds`, a box of `lot`, moved into the cube of live lots if the lot is live. Otherwise it is moved into
+/// the cube for the lines in which the lot lived.
 fn settled(lot: &LotLine, bounds: &IntBox) -> IntBox
     ensures { integer_box result ≡ box_by (lot_of lot.now) (integer_box bounds.now) }
 {

@@ -23,9 +23,14 @@ use std::marker::Brand;
 use std::sync::ledger::{Blank, Ledger};
 
 impl LotBoxes {
-    /// Returns the places, in rising order and at or after `from`, of the live lots of `layer` in `history`, other than
-    /// `id`, of which a box meets one of `boxes`, as `reach` says, both in a cube: so of each of them that has a part
-    /// which may meet a part within `boxes`. `watch` is told of what is visited: nodes of the index of `layer` alone.
+    /// Returns places of live lots in `history`, in rising order. A place is among them iff it is at or after `from`,
+    /// its lot is of `layer` and is not `id`, and two boxes meet: one of the lot and one of `boxes`. Both are moved
+    /// into the cube of live lots, and `reach` says when they meet. So every such lot with a part that may meet a part
+    /// within `boxes` is among them. `watch` is called at each visited node, all of them nodes of the index of `layer`.
+    ///
+    /// # Errors
+    ///
+    /// `AllocError` if memory runs out.
     pub fn near<W: Watch, B: Bounded>(
         &self,
         alloc: Global,
@@ -51,7 +56,8 @@ impl LotBoxes {
         others(alloc, history, &places, layer, id)
     }
 
-    /// Returns the places from one on of the lots of a layer of which a box meets one of some boxes.
+    /// Returns the places at or after `from` of the lots of `layer` of which a box meets one of `boxes`, as `reach`
+    /// says. The boxes are moved into the cube of live lots.
     fn met<W: Watch, B: Bounded>(
         &self,
         alloc: Global,
@@ -70,7 +76,8 @@ impl LotBoxes {
     }
 }
 
-/// Returns the places from one on of the lots of which a box meets one of some boxes in the cube of live lots, box by box.
+/// Returns the places at or after `from` of the lots of which a box meets one of `boxes`, moved into the cube of live
+/// lots. The places are in the order of `boxes`.
 fn met_each<W: Watch, B: Bounded>(
     alloc: Global,
     watch: &W,
@@ -90,7 +97,8 @@ fn met_each<W: Watch, B: Bounded>(
     Ok(places)
 }
 
-/// Returns the places from one on of the lots of which a box meets a box, turn by turn, in the cubes of live lots.
+/// Returns the places at or after `from` of the lots of which a box meets `bounds`, in each turn moved into the cube of
+/// live lots.
 fn met_turned<W: Watch>(
     alloc: Global,
     watch: &W,
@@ -112,7 +120,7 @@ fn met_turned<W: Watch>(
     Ok(places)
 }
 
-/// Returns the places from one on of the lots of which a box meets a box.
+/// Returns the places at or after `from` of the lots of which a box meets `bounds` as it is.
 fn met_by<W: Watch, L: Ledger>(
     alloc: Global,
     watch: &W,
@@ -133,7 +141,7 @@ fn met_by<W: Watch, L: Ledger>(
     places_from(alloc, &ids, from)
 }
 
-/// The places from one on of the lots whose boxes have some ids.
+/// Returns the places at or after `from` of the lots whose boxes have `ids`.
 fn places_from(alloc: Global, ids: &[u32], from: usize) -> Result<Vec<usize>, AllocError>
     ensures { IfOk result (λ places. places.items ≡ filter (λ k. nat_le from k) (map (λ id. id / 16) ids.now)) }
 {
@@ -143,14 +151,14 @@ fn places_from(alloc: Global, ids: &[u32], from: usize) -> Result<Vec<usize>, Al
         .collect(alloc)
 }
 
-/// Whether a lot is live, of the layer and has another id.
+/// Returns whether `lot` is live, of `layer` and not `id`.
 fn is_other(lot: &LotLine, layer: &Name, id: &Name) -> bool
     ensures { result ≡ is_other_in layer.now id.now (lot_of lot.now) }
 {
     lot.ended.is_none() && lot.layer == *layer && *id != lot.id
 }
 
-/// The places, of `places`, whose lots are live, of `layer` and other than `id`.
+/// Returns those of `places` whose lots are live, of `layer` and not `id`.
 fn others(
     alloc: Global,
     history: &History,

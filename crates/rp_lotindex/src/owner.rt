@@ -24,16 +24,16 @@ use rp_space::{IntBox, Point};
 use std::marker::Brand;
 use std::sync::ledger::{Blank, Ledger};
 
-/// Who knows which lots have a point.
+/// A test of which lots have a point.
 pub trait Holder {
     ghost has: { Self → ℕ → Bool };
 
-    /// Whether the lot at a place has the point.
+    /// Returns whether the lot at `place` has the point.
     fn has(&self, place: usize) -> bool
         ensures { result ≡ has self.now place };
 }
 
-/// The lots of a layer that are there at a moment and have a point.
+/// The lots of `layer` that are there at `moment` and have a point.
 #[derive(Clone, Copy)]
 struct Owners<'a, H: Holder> {
     history: &'a History,
@@ -57,9 +57,9 @@ impl<H: Holder> Choice for Owners<'_, H> {
 }
 
 impl LotBoxes {
-    /// Returns the id of the first lot of `layer` in `history` that is there at `moment` and has `p`, as `holder` says; it
-    /// is found without a walk over all lots. `None` iff there is none. Takes no memory. `watch` is told of each node that
-    /// is visited: nodes of the index of `layer` alone.
+    /// Returns the id of the first lot of `layer` in `history` that is there at `moment` and has `p`, as `holder` says.
+    /// Returns `None` iff there is none. No walk over all lots is made, and no memory taken. `watch` is called at each
+    /// visited node, all of them nodes of the index of `layer`.
     pub fn owner<W: Watch, H: Holder>(
         &self,
         watch: &W,
@@ -80,15 +80,15 @@ impl LotBoxes {
             moment,
             holder,
         };
-        // The line of the moment is below 2^32.
+        // The line of `moment` is below 2^32.
         show_line(moment);
         let id = self.first(watch, layer, moment, &unit_box(p), &owners)?;
         let place = place_of(id);
         Some(history.lots()[place].id)
     }
 
-    /// Returns the least id that passes a test, of the boxes of lots of a layer that may be there at a moment, and that
-    /// meet a box.
+    /// Returns the least id that passes the test of `choice`, among the boxes that meet `unit` and whose lots, of
+    /// `layer`, may be there at `moment`.
     fn first<W: Watch, C: Choice>(
         &self,
         watch: &W,
@@ -106,7 +106,8 @@ impl LotBoxes {
     }
 }
 
-/// Returns the least id that passes a test, of the boxes of lots that may be there at a moment, and that meet a box.
+/// Returns the least id that passes the test of `choice`, among the boxes that meet `unit` and whose lots may be there
+/// at `moment`.
 fn first_at<W: Watch, C: Choice>(
     watch: &W,
     index: &Index,
@@ -123,8 +124,8 @@ fn first_at<W: Watch, C: Choice>(
     }
 }
 
-/// Returns the lesser of an id and the least one that passes a test, of the boxes of lots that ended and lived within a
-/// stretch with a line, and that meet a box.
+/// Returns the lesser of `live` and the least id that passes the test of `choice`, among the boxes that meet `unit` and
+/// whose lots ended and lived within a stretch with `line`.
 fn first_past<W: Watch, C: Choice>(
     watch: &W,
     index: &Index,
@@ -145,8 +146,8 @@ fn first_past<W: Watch, C: Choice>(
     first
 }
 
-/// Returns the lesser of an id and the least one that passes a test, of the boxes that meet a box in any turn, in the
-/// cubes of a number.
+/// Returns the lesser of `first` and the least id that passes the test of `choice`, among the boxes in the cubes of
+/// number `cube` that meet `unit` in any turn.
 fn first_turned<W: Watch, C: Choice>(
     watch: &W,
     index: &Index,
@@ -166,7 +167,7 @@ fn first_turned<W: Watch, C: Choice>(
     lesser(lesser(lesser(first, found), beside), above)
 }
 
-/// The lesser of two ids, as far as they are there.
+/// Returns the lesser of two ids; if one is `None`, the other.
 fn lesser(first: Option<u32>, second: Option<u32>) -> Option<u32>
     ensures { result ≡ lesser_of first second }
 {
@@ -177,7 +178,8 @@ fn lesser(first: Option<u32>, second: Option<u32>) -> Option<u32>
     }
 }
 
-/// The least id that passes a test and whose box meets a box, with a count of its own.
+/// Returns the least id that passes the test of `choice` and whose box meets `bounds`. The search counts its steps on
+/// its own.
 fn first_that<W: Watch, C: Choice, L: Ledger>(
     watch: &W,
     index: &Index,
@@ -194,8 +196,8 @@ fn first_that<W: Watch, C: Choice, L: Ledger>(
     index.first(bounds, false, choice, watch, &mut steps)
 }
 
-/// The box from the whole numbers at or below the coordinates of a point of the cube to the next ones. Every box that
-/// holds the point meets it.
+/// Returns the box from the coordinates of `p`, a point of the cube, rounded down, to the next whole numbers. Every box
+/// that has `p` meets it.
 fn unit_box(p: &Point) -> IntBox
     requires { is_cube_point p.now ≡ true }
     ensures { (b : IntegerBox) → IsInBox b p.now → do_meet false (integer_box result) b ≡ true }
@@ -209,7 +211,7 @@ fn unit_box(p: &Point) -> IntBox
     }
 }
 
-/// The coordinate `v / w` of a point of the cube, rounded down.
+/// Returns the coordinate `v / w` of a point of the cube, rounded down.
 fn floor(v: i128, w: i128) -> i32
     requires weight { pos 0 <ℤ w }
     requires range { is_in_range v w ≡ true }

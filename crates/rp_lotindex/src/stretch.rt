@@ -1,12 +1,12 @@
-//! Stretches of lines, under which lots that ended stand: those whose numbers come to the same when they are halved so
-//! often. A lot that lived from one line to another stands under the least stretch with both, so all lots of a stretch
-//! were there at one line in its middle; and whoever was there after a line stands under one of the 32 stretches with
-//! that line (after the interval trees of Edelsbrunner, Dynamic data structures for orthogonal intersection queries,
-//! 1980).
+//! Stretches of lines, to which lots that ended belong. The lines of a stretch are those whose numbers become equal
+//! when halved a number of times. A lot that lived from one line to another belongs to the least stretch with both
+//! lines. So all lots of a stretch were there at one line in its middle. A lot that was there after a line belongs to
+//! one of the 32 stretches with that line. This follows the interval trees of Edelsbrunner, Dynamic data structures for
+//! orthogonal intersection queries, 1980.
 ghost use Rattle.std.specs.Prelude.{◌≡◌};
 ghost use Rattle.rp_lotindex.specs.Stretches.{stretch_of};
 
-/// The lines whose numbers come to `mark` when they are halved once more than `level` times.
+/// The lines whose numbers become `mark` when they are halved `level` + 1 times.
 #[derive(Clone, Copy)]
 pub(crate) struct Stretch {
     pub(crate) level: u32,
@@ -14,7 +14,7 @@ pub(crate) struct Stretch {
 }
 
 impl Stretch {
-    /// The least stretch with both lines.
+    /// Returns the least stretch with both lines.
     pub(crate) fn of(born: u32, ended: u32) -> Stretch
         ensures { result ≡ stretch_of born ended }
     {

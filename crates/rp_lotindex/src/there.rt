@@ -16,7 +16,7 @@ pub(crate) fn show_line(moment: Moment)
     }
 }
 
-/// Returns whether `lot` is there at `moment`.
+/// Returns whether `lot` is there at `moment`: live, or alive after the line.
 pub(crate) fn is_there(lot: &LotLine, moment: Moment) -> bool
     ensures { result ≡ is_there moment (lot_of lot.now) }
 {

@@ -1,4 +1,4 @@
--- Boxes of parts, which may let these meet.
+-- Boxes of parts, which let the parts meet.
 use Rattle.std.specs.Prelude.{Bool}
 use Rattle.rp_geometry.specs.Geometry.{IntegerBox, boxes_meet, closed_boxes_meet}
 use Rattle.rp_proximity.specs.declared.reach.Reach.{Reach}

@@ -1,5 +1,5 @@
-//! The lots that may meet a form, and how many pairs of parts these are. They are found here alone, by the boxes around
-//! them.
+//! The lots that may meet a form, and the number of pairs of parts that may meet. Only this module finds lots by their
+//! boxes.
 ghost use Rattle.std.specs.Prelude.{◌≡◌, ◌<◌, ◌≤◌, ◌*◌, IfOk, Some, count_by, length, map, drop, filter, slice_get, option_map};
 ghost use Rattle.rp_geometry.specs.parts.Parts.{most_parts};
 ghost use Rattle.rp_model.specs.commands.Parts.{count_pairs};
@@ -16,14 +16,14 @@ use rp_space::IntBox;
 use rp_oracle::{MAX_TESTS, Stopped, Oracle};
 use std::alloc::Global;
 
-/// The lots that may meet a form: their places among all lots, and how many pairs of parts may meet.
+/// The lots that may meet a form: their places among all lots, and the number of pairs of parts that may meet.
 #[derive(Drop)]
 pub struct Near {
     pub pairs: u64,
     pub places: Listed<usize>,
 }
 
-/// Returns how many pairs of a part of `form` and one of `other` may meet.
+/// Returns the number of pairs of a part of `form` and one of `other` that may meet.
 pub fn count_pairs<T: Oracle, K: Keeper<T>>(form: &T::Form, other: &T::Form, reach: Reach) -> u64
     requires first { length (T.parts_of form.now) ≤ most_parts }
     requires second { length (T.parts_of other.now) ≤ most_parts }
@@ -33,7 +33,7 @@ pub fn count_pairs<T: Oracle, K: Keeper<T>>(form: &T::Form, other: &T::Form, rea
     count_among::<T, K>(T::parts(form), T::parts(other), reach)
 }
 
-/// Returns how many pairs of a part of `parts` and one of `others` may meet.
+/// Returns the number of pairs of a part of `parts` and one of `others` that may meet.
 fn count_among<T: Oracle, K: Keeper<T>>(parts: &[T::Part], others: &[T::Part], reach: Reach) -> u64
     requires first { length parts.now ≤ most_parts }
     requires second { length others.now ≤ most_parts }
@@ -47,7 +47,7 @@ fn count_among<T: Oracle, K: Keeper<T>>(parts: &[T::Part], others: &[T::Part], r
     count
 }
 
-/// Returns how many of `others` may meet `part`.
+/// Returns the number of `others` that may meet `part`.
 fn count_with_part<T: Oracle, K: Keeper<T>>(part: &T::Part, others: &[T::Part], reach: Reach) -> u64
     requires { length others.now ≤ most_parts }
     ensures value { result ≡ count_by (λ q. may_meet reach (T.seen part.now) q) (map T.seen others.now) }
@@ -69,9 +69,12 @@ fn may_meet<T: Oracle, K: Keeper<T>>(first: &T::Part, second: &T::Part, reach: R
     do_boxes_meet(K::bounds(first), K::bounds(second), reach)
 }
 
-/// Returns the live lots of `layer`, from the place `from` on, that have another id than `id` and a part that may meet
-/// one of `form`'s, in the order of registration. `Limit` exactly where there are more pairs of such parts than a
-/// command may test.
+/// Returns the live lots of `layer`, from the place `from` on and other than `id`, that have a part that may meet one
+/// of `form`'s, in the order of registration.
+///
+/// # Errors
+///
+/// `Limit` iff there are more pairs of such parts than a command may test. `Memory` if memory runs out.
 pub fn lots_near<T: Oracle, K: Keeper<T>>(
     alloc: Global,
     keeper: &K,
@@ -92,8 +95,12 @@ pub fn lots_near<T: Oracle, K: Keeper<T>>(
     count_at::<T, K>(alloc, keeper, form, places.items(), reach)
 }
 
-/// Those of some places whose lots have a part that may meet one of `form`'s, in order, and how many pairs of such
-/// parts there are. `Limit` exactly where these are more than a command may test.
+/// Returns those of `places` whose lots have a part that may meet one of `form`'s, in order, and the number of pairs of
+/// such parts.
+///
+/// # Errors
+///
+/// `Limit` iff there are more of these pairs than a command may test. `Memory` if memory runs out.
 fn count_at<T: Oracle, K: Keeper<T>>(
     alloc: Global,
     keeper: &K,

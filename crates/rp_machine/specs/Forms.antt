@@ -1,4 +1,4 @@
--- What a call that makes the form of an expression has made of it.
+-- The contracts of calls that make the form of an expression.
 use Rattle.std.specs.Prelude.{◌≡◌, Result, Ok, Err}
 use Rattle.rp_semantics.specs.Walk.{done, stopped, limit_met, Walk, Work}
 use Rattle.rp_region.specs.declared.fault.OpFault.{OpFault}
@@ -7,12 +7,12 @@ use Rattle.rp_region.specs.Makes.{IsCutShort}
 use Rattle.rp_machine.specs.declared.fault.FormFault.{FormFault}
 use Rattle.rp_machine.specs.declared.fault.FormFault.TheVariants.{Unknown, Limit, Memory}
 
--- a fault of an operation, as one of a form
+-- a fault of an operation, as a fault of a form
 abbrev pub fault_of_form : OpFault → FormFault
 fault_of_form OpLimit = Limit
 fault_of_form (OpMemory e) = Memory e
 
--- forms were made, from the work old to the work new: the walk comes to the result, as the model sees it, meets a limit, or was given up for want of memory; no name is unknown
+-- the walk has the result, as the model sees it, from the work old to the work new; or it meets a limit, or was cut short for want of memory; no name is unknown
 abbrev pub MakesForm : {A B : Type 0} → (A → B) → Result A FormFault → Work → Work → Walk Work B → Type 0
 MakesForm view (Ok x) old new walk = walk old ≡ done (view x) new
 MakesForm view (Err (Unknown x)) old new walk = ⊥

@@ -1,4 +1,4 @@
--- What a command has come to, said by what its row comes to.
+-- The result of a command, by the result of its row.
 use Rattle.std.specs.Prelude.{List, [], ◌∷◌, map, Result, Ok, Err, IsNone}
 use Rattle.rp_geometry.specs.searches.ProofLine.{ProofLine}
 use Rattle.rp_geometry.specs.sets.Shape.{Part}
@@ -16,15 +16,15 @@ use Rattle.rp_register_state.specs.Rows.{change_in}
 
 -- ---- changes
 
--- the change of the model
+-- the change of the model for a change of the code
 abbrev pub made : Change (List Part) → ModelChange (Unit {0})
 made c = change_of (λ form. form) c
 
--- what a reply changes
+-- the change of a reply
 abbrev pub made_by : CodeReply (List Part) → ModelChange (Unit {0})
 made_by r = change_in (λ form. form) r
 
--- what a row changes: nothing where it has no reply
+-- the change of a row; none if it has no reply
 abbrev pub made_by_row : Result (CodeReply (List Part)) RowEnd → ModelChange (Unit {0})
 made_by_row (Ok r) = made_by r
 made_by_row (Err e) = nothing_changes
@@ -36,13 +36,13 @@ abbrev pub lines_of : CodeReply (List Part) → List Verdict
 lines_of (Told lines) = map verdict_of lines.items
 lines_of (Changed c) = says_ok ∷ []
 
--- the verdict lines of a row that has come to this; a row is stopped by a limit, where it is not for want of memory
+-- the verdict lines of a row; a stop that is not for want of memory is a limit
 abbrev pub verdicts_of_row : Result (CodeReply (List Part)) RowEnd → List Verdict
 verdicts_of_row (Ok r) = lines_of r
 verdicts_of_row (Err (Refused r)) = refused (refusal_of r) ∷ []
 verdicts_of_row (Err (StoppedEnd e)) = refused limit ∷ []
 
--- its proof lines; a stop leaves none
+-- the proof lines of a row; a stop leaves none
 abbrev pub proofs_of_row : Result (CodeReply (List Part)) RowEnd → List ProofLine → List ProofLine
 proofs_of_row (Err (StoppedEnd e)) lines = []
 proofs_of_row _ lines = lines

@@ -1,4 +1,4 @@
--- What a register keeps.
+-- The contents of a register.
 use Rattle.std.specs.Prelude.{List, []}
 use Rattle.rp_model.specs.states.State.{Lot, state_of_parts}
 use Rattle.rp_model.specs.states.Sound.{IsSound}

@@ -1,4 +1,4 @@
--- What a call of the register has come to, said by the row of its command.
+-- The results of calls of the register, by the rows of their commands.
 use Rattle.std.specs.Prelude.{◌≡◌, ℕ, List, Option, Some, None, IfSome, Result, Ok, Err}
 use Rattle.rp_geometry.specs.searches.ProofLine.{ProofLine, in_line}
 use Rattle.rp_semantics.specs.Walk.{Outcome, done, stopped, limit_met, Walk, Work}
@@ -12,7 +12,7 @@ use Rattle.rp_history.specs.Lots.{lots_after}
 use Rattle.rp_parcels.specs.declared.fault.ParcelFault.{ParcelFault}
 use Rattle.rp_parcels.specs.declared.fault.ParcelFault.TheVariants.{Known, Unknown, Repeated, Layers, Same, Few, Empty, Limit, Overlaps, EmptySide, EmptyChild, Outside, ChildrenOverlap, Gap, Memory}
 
--- what a fault is: a refusal, a limit that is met, or a want of memory
+-- the cause of a fault: a refusal, a limit that is met, or want of memory
 pub data Cause : Type 0 where
   refuses : Refusal → Cause
   limited wanting : Cause
@@ -35,7 +35,7 @@ cause_of (ChildrenOverlap m n points) = refuses (children_overlap m n)
 cause_of (Gap points) = refuses gap
 cause_of (Memory e) = wanting
 
--- the proof line that a fault carries, if it carries one
+-- the proof line in a fault, if there is one
 abbrev pub line_of_fault : ParcelFault → Option ProofLine
 line_of_fault (Overlaps x points) = Some (in_line points)
 line_of_fault (Outside k points) = Some (in_line points)
@@ -43,33 +43,33 @@ line_of_fault (ChildrenOverlap m n points) = Some (in_line points)
 line_of_fault (Gap points) = Some (in_line points)
 line_of_fault _ = None
 
--- what a fault carries is what the last of the proof lines says
+-- the proof line in a fault is the last of the proof lines
 abbrev pub IsTold : List ProofLine → ParcelFault → Type 0
 IsTold lines e = IfSome (line_of_fault e) (λ line. IsLast line lines)
 
--- what a row comes to where its call has a fault of this cause, from the work old to the work new; where memory ran out it was given up on the way
+-- the outcome of a row whose call has a fault of the given cause, from the work old to the work new; if memory ran out, the row was cut short
 abbrev pub EndsBy : Cause → Work → Work → Outcome Work Reply → Type 0
 EndsBy (refuses r) old new o = o ≡ done (refusal r) new
 EndsBy limited old new o = o ≡ stopped limit_met new
 EndsBy wanting old new o = IsCutShort old new o
 
--- the same of a fault
+-- the outcome of a row whose call has the given fault, from the work old to the work new
 abbrev pub EndsWith : ParcelFault → Work → Work → Outcome Work Reply → Type 0
 EndsWith e old new o = EndsBy (cause_of e) old new o
 
--- a question was asked, from the work old to the work new: its row comes to the reply, as the model sees it, or has the fault
+-- the answer to a question, from the work old to the work new: its row has the reply of the result, as the model sees it, or the fault
 abbrev pub Answers : {A : Type 0} → (A → Reply) → Result A ParcelFault → Work → Work → Walk Work Reply → Type 0
 Answers view (Ok x) old new row = row old ≡ done (view x) new
 Answers view (Err e) old new row = EndsWith e old new (row old)
 
--- a row comes to lots that end and lots that are born in their place, by the line with the number
+-- the row accepts a change at line n: lots end, and others are born in their place
 pub record IsAccepted (n : ℕ) (before after : List (Lot (Unit {0}))) (w : Work) (o : Outcome Work Reply) : Type 0 where
   pub ids : List Label
   pub new : List (NewLot (Unit {0}))
   pub says : o ≡ done (accepted (lots_replaced ids new)) w
   pub lots : after ≡ lots_after n before (lots_replaced ids new)
 
--- a change was asked for by the line with the number, from the work old to the work new: its row comes to a change, and the lots are as they are after it; or it has the fault, and the lots are as before
+-- a change at line n, from the work old to the work new: the row accepts it, and the lots are those after it; or there is a fault, and the lots are as before
 abbrev pub Changes : {A : Type 0} → Result A ParcelFault → ℕ → Work → Work → List (Lot (Unit {0})) → List (Lot (Unit {0})) → Walk Work Reply → Type 0
 Changes (Ok x) n old new before after row = IsAccepted n before after new (row old)
 Changes (Err e) n old new before after row = EndsWith e old new (row old) × (after ≡ before)

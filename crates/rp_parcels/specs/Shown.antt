@@ -1,4 +1,4 @@
--- How the refusal of a row is shown by its proof lines.
+-- The proof lines that show the refusal of a row.
 use Rattle.std.specs.Prelude.{List, Result, Ok, Err}
 use Rattle.rp_geometry.specs.Geometry.{RationalPoint}
 use Rattle.rp_geometry.specs.searches.ProofLine.{ProofLine, in_line}
@@ -13,11 +13,11 @@ pub record EndsInside (lines : List ProofLine) : Type 0 where
   pub points : List RationalPoint
   pub last : IsLast (in_line points) lines
 
--- how a refusal is shown: by the points of the last line, or by no line; or it is none of a row about lots
+-- how a refusal is shown: by the points of the last line, or by no line; or no row about lots has it
 pub data Kind : Type 0 where
   by_points by_none never : Kind
 
--- how each is
+-- how each refusal is shown
 abbrev pub kind_of : Refusal → Kind
 kind_of (overlaps x) = by_points
 kind_of (outside_lot k) = by_points
@@ -28,17 +28,17 @@ kind_of limit = never
 kind_of (empty_region k) = never
 kind_of _ = by_none
 
--- lines show what is shown so
+-- the proof lines show a refusal in the given way
 abbrev pub IsShownBy : List ProofLine → Kind → Type 0
 IsShownBy lines by_points = EndsInside lines
 IsShownBy lines by_none = Unit {0}
 IsShownBy lines never = ⊥
 
--- lines show the refusal
+-- the proof lines show the refusal
 abbrev pub IsShown : List ProofLine → Refusal → Type 0
 IsShown lines r = IsShownBy lines (kind_of r)
 
--- lines show the refusal that a row ends with, if it ends with one
+-- the proof lines show the refusal with which a row ends, if it ends with one
 abbrev pub EndIsShown : {A : Type 0} → List ProofLine → Result A RowEnd → Type 0
 EndIsShown lines (Ok x) = Unit {0}
 EndIsShown lines (Err (Refused r)) = IsShown lines (refusal_of r)

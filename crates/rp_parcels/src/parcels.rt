@@ -1,4 +1,4 @@
-//! The register of parcels: what it keeps, and how it changes.
+//! The register of parcels: its contents, and its changes.
 ghost use Rattle.std.specs.Prelude.{◌≡◌, ◌+◌, ◌≤◌, [], length, map, option_copied, IfOk, IfErr, OnOk, OnErr};
 ghost use Rattle.rp_semantics.specs.Walk.{no_work};
 ghost use Rattle.rp_model.specs.states.State.{live_lot, parts_of_lot, bare_lot, lots_replaced, most_kept_parts};
@@ -22,8 +22,8 @@ use std::alloc::{AllocError, Global};
 use std::marker::Model;
 
 /// All parcels that were ever registered, in the order of registration, with their regions. A contract sees them as the
-/// lots of a sound state: ids are distinct, live parcels of one layer share no point, every parcel has a point, the
-/// limits of parts are kept, every end is above its birth, and origins stand before and are of the same layer.
+/// lots of a sound state. Ids are distinct, live parcels of one layer share no point, every parcel has a point, and the
+/// limits of parts hold. Every end is above its birth, and origins come before and are of the same layer.
 #[derive(Drop)]
 pub struct Parcels {
     lots: Lots<Regions>,
@@ -42,7 +42,11 @@ impl Model for Parcels {
 }
 
 impl Parcels {
-    /// No parcels.
+    /// Returns the register of no parcels.
+    ///
+    /// # Errors
+    ///
+    /// `AllocError` if memory runs out.
     pub fn new(alloc: Global) -> Result<Parcels, AllocError>
         ensures { IfOk result (λ parcels. parcels ≡ []) }
     {
@@ -60,15 +64,14 @@ impl Parcels {
         self.lots.history()
     }
 
-    /// Returns the region of a live parcel, found without a walk over all parcels. `None` exactly where the id isn't
-    /// live.
+    /// Returns the region of the live parcel `id`, without a walk over all parcels; `None` iff it is not live.
     pub fn region(&self, id: Name) -> Option<&Region>
         ensures { option_copied result ≡ parts_of_lot (live_lot id self.now) }
     {
         self.lots.find(&id)
     }
 
-    /// Returns the parcels as they are kept.
+    /// Returns the parcels as they are stored.
     pub(crate) fn lots(&self) -> &Lots<Regions>
         ensures value { result.now ≡ self.now }
         ensures sound { AreSound self.now }
@@ -76,12 +79,12 @@ impl Parcels {
         &self.lots
     }
 
-    /// Returns the parcels as what keeps lots. `visits` counts the nodes of their index that are visited.
+    /// Returns the parcels as a keeper of lots. `visits` counts the visited nodes of their index.
     pub(crate) fn keeper<'a>(&'a self, visits: &'a VisitCount) -> ParcelKeeper<'a>
         ensures value { result.parcels.now ≡ self.now }
         ensures sound { AreSound self.now }
     {
-        // Only so that it is known that the parcels are sound.
+        // This makes the invariant known, which says that the parcels are sound.
         let _ = &self.lots;
         ParcelKeeper {
             parcels: self,
@@ -89,8 +92,8 @@ impl Parcels {
         }
     }
 
-    /// Ends the parcels of the ids `ends` at the line, and lets others be born in their place, which go last, each with
-    /// its region. After `AllocError` all is as before.
+    /// Ends the parcels `ends` at `line`, and appends a parcel for each of `births`, with its region of `regions`.
+    /// After `AllocError` all is as before.
     pub(crate) fn replace(
         &mut self,
         alloc: Global,
@@ -111,8 +114,11 @@ impl Parcels {
         Ok(())
     }
 
-    /// Ends the live parcel `id` at `line`, which is above every birth and every end. `Unknown(id)` exactly where it
-    /// isn't live; then all is as before. Takes no memory.
+    /// Ends the live parcel `id` at `line`, which is above every birth and every end. Takes no memory.
+    ///
+    /// # Errors
+    ///
+    /// `Unknown(id)` iff it is not live. All is then as before.
     pub fn retire(&mut self, line: u32, id: Name) -> Result<(), ParcelFault>
         requires { IsLater line self.old }
         ensures row { Changes result line no_work no_work self.old self.new (row_retire (lots_in [] self.old) id) }

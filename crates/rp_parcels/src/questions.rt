@@ -1,5 +1,4 @@
-//! Which parcels are in contact, how one gets from one to another, and that all are apart: by the rows that are written
-//! once.
+//! Contact between parcels, access from one to another, and the audit that all are apart, by the generic rows.
 ghost use Rattle.std.specs.Prelude.{◌≡◌, ◌≤◌, [], length};
 ghost use Rattle.rp_semantics.specs.Walk.{first_tester};
 ghost use Rattle.rp_model.specs.states.State.{live_lots};
@@ -24,12 +23,20 @@ use std::alloc::Global;
 use std::thread::Threads;
 
 impl Parcels {
-    /// Returns the other live parcels of the parcel's layer in contact with it, in the order of registration. Refusals,
-    /// in this order: `Unknown(id)` where it isn't live; `Limit` where too many pairs of their parts have boxes that
-    /// meet, the boundary included.
+    /// Returns the live parcels of the layer of `id` in contact with it, in the order of registration.
     ///
-    /// The items are the other live parcels of the layer that have such a pair with it. They are judged in halves, and
-    /// a run of at most `grain` is not split; the answer and the proof lines are the same for every grain.
+    /// The items are the other live parcels of the layer that have a pair of parts with it whose boxes meet, the
+    /// boundary included. They are judged in halves, and a run of at most `grain` is not split; the answer and the
+    /// proof lines are equal for every grain.
+    ///
+    /// # Errors
+    ///
+    /// The first of these, in this order:
+    ///
+    /// * `Unknown(id)` if `id` is not live;
+    /// * `Limit` if there are too many pairs of parts whose boxes meet, the boundary included.
+    ///
+    /// `Memory` if memory runs out.
     pub fn neighbours<R: Threads + Sync, W: Watch>(
         &self,
         rt: &R,
@@ -50,13 +57,23 @@ impl Parcels {
         answered(work, walked, came)
     }
 
-    /// Returns a shortest chain of live parcels of one layer from one to another, each in contact with the next, and
-    /// the level of each parcel of the layer that has one: how many steps the shortest chain from it has. Refusals, in
-    /// this order: `Unknown(from)` and `Unknown(to)` where one isn't live; `Layers(to)` where the layers differ;
-    /// `Limit` where too many pairs of parts of parcels of the layer have boxes that meet, the boundary included.
+    /// Returns a shortest chain of live parcels of one layer from `from` to `to`, each in contact with the next.
+    /// Returns also the level of each parcel of the layer from which a chain leads to `to`: the number of steps of a
+    /// shortest one.
     ///
-    /// The items are the pairs of live parcels of the layer that have such a pair of parts. They are judged in halves,
-    /// and a run of at most `grain` is not split; the answer and the proof lines are the same for every grain.
+    /// The items are the pairs of live parcels of the layer that have a pair of parts whose boxes meet, the boundary
+    /// included. They are judged in halves, and a run of at most `grain` is not split; the answer and the proof lines
+    /// are equal for every grain.
+    ///
+    /// # Errors
+    ///
+    /// The first of these, in this order:
+    ///
+    /// * `Unknown(from)` or `Unknown(to)` if one is not live;
+    /// * `Layers(to)` if the layers differ;
+    /// * `Limit` if there are too many pairs of parts whose boxes meet, the boundary included.
+    ///
+    /// `Memory` if memory runs out.
     pub fn access<R: Threads + Sync, W: Watch>(
         &self,
         rt: &R,
@@ -78,12 +95,15 @@ impl Parcels {
         answered(work, walked, came)
     }
 
-    /// Returns the number of live parcels of all layers, with a proof line in `work` for each pair of parts whose boxes
-    /// meet, of two live parcels of one layer: they share no point. `Limit` exactly where there are too many of these
-    /// pairs.
+    /// Returns the number of live parcels of all layers. For each pair of parts, of two live parcels of one layer,
+    /// whose boxes share more than boundary, a proof line in `work` shows that they share no point.
     ///
     /// The items are the pairs of parcels that have such a pair of parts. They are judged in halves, and a run of at
-    /// most `grain` is not split; the answer and the proof lines are the same for every grain.
+    /// most `grain` is not split; the answer and the proof lines are equal for every grain.
+    ///
+    /// # Errors
+    ///
+    /// `Limit` iff there are too many of these pairs of parts. `Memory` if memory runs out.
     pub fn audit<R: Threads + Sync, W: Watch>(
         &self,
         rt: &R,
@@ -103,7 +123,7 @@ impl Parcels {
         answered(work, walked, came)
     }
 
-    /// Returns how many parcels of all layers are live.
+    /// Returns the number of live parcels of all layers.
     pub fn count_live(&self) -> u32
         ensures { result ≡ length (live_lots self.now) }
     {

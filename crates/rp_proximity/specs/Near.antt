@@ -19,15 +19,15 @@ may_meet Touch = touching_pair
 abbrev pub others_in : {S : Type 0} → Label → Label → List (Lot S) → List (Lot S)
 others_in y x lots = other_lots x (lots_of_layer y (live_lots lots))
 
--- how many pairs of a part of a list and one of a lot may meet
+-- the number of pairs of a part of a list and a part of a lot that may meet
 abbrev pub pairs_with : {S : Type 0} → Reach → List Part → List (Lot S) → ℕ
 pairs_with r ps lots = count_with_each (may_meet r) ps (lot_parts lots)
 
--- some part of the lot may meet one of the list
+-- some part of the lot may meet some part of the list
 abbrev pub is_near : {S : Type 0} → Reach → List Part → Lot S → Bool
 is_near r ps l = not (count_pairs (may_meet r) ps l.parts == 0)
 
--- the lots at some places, in order
+-- the lots at the given places, in order
 abbrev pub lots_at : {S : Type 0} → List (Lot S) → List ℕ → List (Lot S)
 lots_at lots [] = []
 lots_at lots (k ∷ ks) = option_to_list (slice_get lots k) ++ lots_at lots ks
@@ -40,6 +40,6 @@ AreWithin xs ks = AllByRecursion (λ k. k < length xs) ks
 abbrev pub is_other_in : {S : Type 0} → Label → Label → Lot S → Bool
 is_other_in y x l = is_live l && (label_eq l.layer y && not (label_eq x l.id))
 
--- so is the lot at a place
+-- the lot at a place is live, of the layer and has another id
 abbrev pub is_other_at : {S : Type 0} → Label → Label → List (Lot S) → ℕ → Bool
 is_other_at y x lots k = elim (slice_get lots k) [ None ↦ false | Some l ↦ is_other_in y x l ]

@@ -11,7 +11,7 @@ use Rattle.rp_model.specs.commands.Parts.{is_in_parts}
 use Rattle.rp_proximity.specs.declared.moment.Moment.{Moment}
 use Rattle.rp_proximity.specs.declared.moment.Moment.TheVariants.{Now, After}
 
--- a lot is there at a moment
+-- the lot is there at a moment
 abbrev pub is_there : {S : Type 0} → Moment → Lot S → Bool
 is_there Now = is_live
 is_there (After n) = is_alive_after n
@@ -21,15 +21,15 @@ abbrev pub IsLine : Moment → Type 0
 IsLine Now = Unit {0}
 IsLine (After n) = n < 2 ^ 32
 
--- the verdict that tells an owner
+-- the verdict for an owner
 abbrev pub owner_verdict : Option Label → Verdict
 owner_verdict None = Verdict.nobody
 owner_verdict (Some x) = Verdict.parcel x
 
--- it is known of each lot whether it has the point
+-- the test says of each lot whether it has the point
 abbrev pub KnowsOwners : {S : Type 0} → (ℕ → Bool) → List (Lot S) → RationalPoint → Type 0
 KnowsOwners {S} has lots p = (k : ℕ) (l : Lot S) → slice_get lots k ≡ Some l → has k ≡ is_in_parts l.parts p
 
--- the box of each part holds its members
+-- the box of each part contains its members
 abbrev pub BoxesHold : {S : Type 0} → List (Lot S) → Type 0
 BoxesHold lots = AllByRecursion (λ l. AllByRecursion (λ (q : Part). BoxHoldsCell q.bounds q.cell) l.parts) lots

@@ -1,6 +1,6 @@
-//! When lots are looked for.
+//! The moments for which lots are searched.
 
-/// When lots are looked for.
+/// The moment for which lots are searched.
 #[derive(Clone, Copy)]
 pub enum Moment {
     /// Now.

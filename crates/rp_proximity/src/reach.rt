@@ -1,10 +1,10 @@
 //! Which parts are near.
 
-/// Which boxes let two parts meet.
+/// When two boxes meet.
 #[derive(Clone, Copy)]
 pub enum Reach {
-    /// Those that share more than boundary.
+    /// They share more than boundary.
     Overlap,
-    /// Those that share a point, the boundary included.
+    /// They share a point, the boundary included.
     Touch,
 }

@@ -1,4 +1,4 @@
--- Pairs of lots, and what the tests of each show by themselves.
+-- Pairs of lots, and the results of the tests of each pair.
 use Rattle.std.specs.Prelude.{◌≡◌, ℕ, ◌<◌, Bool, false, List, [], ◌∷◌, length, get_or}
 use Rattle.rp_geometry.specs.sets.Shape.{Part}
 use Rattle.rp_semantics.specs.Walk.{Outcome, done, stopped, Walk, Work, no_work, with_lines, first_tester}
@@ -8,24 +8,24 @@ use Rattle.rp_contacts.specs.declared.pair.Pair.{Pair}
 use Rattle.rp_contacts.specs.Meets.{pair_of, IsPairWithin, pair_test as tests_of_pair}
 use Rattle.rp_regionlots.specs.declared.halves.Shown.{Shown}
 
--- the tests of two lists of parts: of the pairs whose boxes let them meet alone, up to the first that does
+-- the tests of two lists of parts: of the pairs whose boxes let them meet, up to the first that does
 abbrev pub pair_test : Reach → List Part → List Part → Walk Work Bool
 pair_test r ps qs = tests_of_pair first_tester r ps qs
 
--- a test was passed
+-- the test passed
 abbrev pub is_passed : Outcome Work Bool → Bool
 is_passed (done b w) = b
 is_passed (stopped s w) = false
 
--- what the tests of two lists of parts show
+-- the result of the tests of two lists of parts
 abbrev pub shown_of : Reach → List Part → List Part → Shown
 shown_of r ps qs = record { meets = is_passed (pair_test r ps qs no_work); work = work_after (pair_test r ps qs no_work) }
 
--- what those of a pair show
+-- the result of the tests of a pair
 abbrev pub shown : Reach → List (List Part) → Pair → Shown
 shown r lists p = shown_of r (get_or lists p.first []) (get_or lists p.second [])
 
--- what those of one of the pairs show
+-- the result of the tests of the pair with index i
 abbrev pub shown_at : Reach → List (List Part) → List Pair → ℕ → Shown
 shown_at r lists ps i = shown r lists (get_or ps i (pair_of 0 0))
 

@@ -16,14 +16,14 @@ use rp_oracle::Stopped;
 use std::alloc::{AllocError, Global};
 use std::thread::Threads;
 
-/// What the tests of a pair have shown: whether the two meet, and the proof lines.
+/// The result of the tests of a pair: whether the two meet, and the proof lines.
 #[derive(Drop)]
 pub(crate) struct Shown {
     pub meets: bool,
     pub work: Work,
 }
 
-/// Pairs of lots, whose forms stand at their places, and of which each is judged by itself.
+/// Pairs of lots, each of which is judged by itself. A lot of a pair is an index of `forms`.
 #[derive(Drop)]
 struct Judging<'a, W: Watch> {
     forms: &'a [Region],
@@ -50,12 +50,16 @@ impl<W: Watch> Judge for Judging<'_, W> {
     }
 }
 
-/// Of each of `pairs`, in order, whether the two lots meet whose forms stand in `forms` at its places, as `reach` says,
-/// with the proof lines of all in `work`. Only those pairs of parts are tested whose boxes let them meet, up to the
-/// first that does; nothing is counted.
+/// Returns whether the two lots of each of `pairs` meet, as `reach` says, in order. A lot of a pair is an index of
+/// `forms`. The proof lines of all pairs are appended to `work`. Only pairs of parts whose boxes let them meet are
+/// tested, up to the first that does, and no test is counted.
 ///
-/// The pairs are judged in halves, of which one of at most `grain` is not split; `watch` is told of each as its tests
-/// begin. The answers and the proof lines are the same for every grain.
+/// The pairs are judged in halves, and a run of at most `grain` is not split. `watch` is called for each pair as its
+/// tests begin. The answers and the proof lines are equal for every grain.
+///
+/// # Errors
+///
+/// `Stopped` with the reason if a test is stopped.
 pub fn meet_in_halves<R: Threads + Sync, W: Watch>(
     rt: &R,
     alloc: Global,
@@ -73,13 +77,13 @@ pub fn meet_in_halves<R: Threads + Sync, W: Watch>(
 {
     let all = judge_pairs(rt, alloc, watch, grain, forms, pairs, reach)?;
     let met = met_of(alloc, &all)?;
-    // Only so that it is known that few tests are counted.
+    // This makes the invariant of `work` known, which bounds the number of tests.
     let _ = work.tests();
     append_shown(alloc, work, all)?;
     Ok(met)
 }
 
-/// Returns what the tests of each pair show, in order.
+/// Returns the results of the tests of each pair, in order.
 fn judge_pairs<R: Threads + Sync, W: Watch>(
     rt: &R,
     alloc: Global,
@@ -102,7 +106,7 @@ fn judge_pairs<R: Threads + Sync, W: Watch>(
     judge_all(rt, alloc, grain, &judging)
 }
 
-/// Returns what the tests of a pair show.
+/// Returns the result of the tests of `pair`.
 fn judge_pair(
     alloc: Global,
     forms: &[Region],
@@ -126,8 +130,8 @@ fn judge_pair(
     }
 }
 
-/// Returns whether two regions meet. Only those pairs of their parts are tested whose boxes let them; nothing is
-/// counted.
+/// Returns whether two regions meet, as `reach` says. Only pairs of parts whose boxes let them meet are tested, and no
+/// test is counted.
 fn do_meet(
     alloc: Global,
     first: &Region,
@@ -143,7 +147,7 @@ fn do_meet(
     }
 }
 
-/// Of each pair whether it meets.
+/// Returns for each pair whether it meets.
 fn met_of(alloc: Global, all: &[Shown]) -> Result<Vec<bool>, AllocError>
     ensures { IfOk result (λ met. met.items ≡ map (λ s. s.meets) all.now) }
 {

@@ -1,4 +1,4 @@
--- What the row of a command comes to.
+-- The result of the row of a command.
 use Rattle.std.specs.Prelude.{◌≡◌, ◌≤◌, List, length, map, Result, Ok, Err}
 use Rattle.rp_geometry.specs.parts.Parts.{most_parts}
 use Rattle.rp_geometry.specs.sections.Trace.{IsHeight}
@@ -24,29 +24,29 @@ use Rattle.rp_register_state.specs.declared.reply.Row.TheVariants.{Replied, Neig
 
 -- ---- replies
 
--- what a reply changes
+-- the change of a reply
 abbrev pub change_in : {F : Type 0} → (F → List Part) → Reply F → ModelChange (Unit {0})
 change_in view (Told lines) = nothing_changes
 change_in view (Changed c) = change_of view c
 
--- the reply of the model
+-- the reply of the model for a reply of the code
 abbrev pub reply_of : {F : Type 0} → (F → List Part) → Reply F → ModelReply
 reply_of view (Told lines) = reply_lines (map verdict_of lines.items)
 reply_of view (Changed c) = accepted (change_of view c)
 
--- the row of a command was made, and the work is this: it comes to the reply, or ends so
+-- the row of a command has the reply, or the end, with the given work
 abbrev pub Replies : {W F : Type 0} → (F → List Part) → Result (Reply F) RowEnd → W → Outcome W ModelReply → Type 0
 Replies view (Ok r) w o = o ≡ done (reply_of view r) w
 Replies view (Err e) w o = EndsBy e w o
 
--- the reply to a question
+-- the result of a question, as a reply
 abbrev pub reply_told : {F : Type 0} → Result (Listed CodeVerdict) RowEnd → Result (Reply F) RowEnd
 reply_told (Ok lines) = Ok (Told lines)
 reply_told (Err e) = Err e
 
--- ---- rows that stand once
+-- ---- rows that are the same for a run and a check
 
--- what is left of a row
+-- the rest of a row
 abbrev pub rest_of : {W F : Type 0} → Tester W → (F → List Part) → PlainState → CodeRow F → Walk W ModelReply
 rest_of tester view s (Replied r) = pass (reply_of view r)
 rest_of tester view s (Neighbours x) = row_neighbours tester s x
@@ -54,17 +54,17 @@ rest_of tester view s Audit = row_audit tester s
 rest_of tester view s (Access x y) = row_access tester s x y
 rest_of tester view s (Section f z) = row_section tester z (view f)
 
--- the form whose slices are to be told is short, and the height is one
+-- the form to be sliced has at most 1,024 parts, and the height is one of the cube
 abbrev pub IsReadyRow : {F : Type 0} → (F → List Part) → CodeRow F → Type 0
 IsReadyRow view (Section f z) = (length (view f) ≤ most_parts) × IsHeight z
 IsReadyRow view _ = Unit {0}
 
--- the row of a question that is answered
+-- the result of a question, as a row
 abbrev pub row_told : {F : Type 0} → Result (Listed CodeVerdict) RowEnd → Result (CodeRow F) RowEnd
 row_told (Ok lines) = Ok (Replied (Told lines))
 row_told (Err e) = Err e
 
--- the row of a command that changes something
+-- the result of a command that changes something, as a row
 abbrev pub row_changed : {F : Type 0} → Result (Change F) RowEnd → Result (CodeRow F) RowEnd
 row_changed (Ok c) = Ok (Replied (Changed c))
 row_changed (Err e) = Err e

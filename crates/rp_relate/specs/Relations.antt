@@ -1,4 +1,4 @@
--- How regions stand to each other, as the code answers it.
+-- The relations of regions, as the code finds them.
 use Rattle.std.specs.Prelude.{◌≡◌, ℕ, ◌==◌, true, false, Bool, List, [], ◌∷◌, Option, Some, None, Result, Ok, Err}
 use Rattle.rp_geometry.specs.sets.Shape.{Shape, Part}
 use Rattle.rp_geometry.specs.sets.Sets.{IsNonempty, IsEmpty}
@@ -12,33 +12,33 @@ use Rattle.rp_eval.specs.Relations.{relation_of, cover_each_other as each_other}
 use Rattle.rp_relate.specs.declared.relation.RccFault.{RccFault}
 use Rattle.rp_relate.specs.declared.relation.RccFault.TheVariants.{EmptyRegion, Limit, Memory}
 
--- a fault of an operation, as one of a relation
+-- a fault of an operation, as a fault of a relation
 abbrev pub fault_of_relation : OpFault → RccFault
 fault_of_relation OpLimit = Limit
 fault_of_relation (OpMemory e) = Memory e
 
--- whether each list is within the other; where the first is not, the second is not asked
+-- whether each list is within the other; if the first is not, the second is not tested
 abbrev pub cover_each_other : List Part → List Part → Walk Work Bool
 cover_each_other ps qs = each_other first_tester ps qs
 
--- which of two lists is the first without a part
+-- the number of the first list without a part, of two
 abbrev pub first_empty : List Part → List Part → Option ℕ
 first_empty [] qs = Some 1
 first_empty (p ∷ ps) [] = Some 2
 first_empty (p ∷ ps) (q ∷ qs) = None
 
--- whether two shapes are told empty: the first has no point, or has one and the second has none
+-- the first empty shape of two has the number k: the first has no point, or the first has one and the second has none
 abbrev pub AreToldEmpty : ℕ → Shape → Shape → Type 0
 AreToldEmpty k s t = elim (k == 1) [ true ↦ IsEmpty s | false ↦ elim (k == 2) [ true ↦ IsNonempty s × IsEmpty t | false ↦ ⊥ ] ]
 
--- a result tells exactly which of two shapes is the first without a point; all other results are of shapes that have one
+-- the result says which of two shapes is the first without a point; every other result is of shapes with points
 abbrev pub TellsEmpty : Result Rcc8 RccFault → Shape → Shape → Type 0
 TellsEmpty (Ok r) s t = IsNonempty s × IsNonempty t
 TellsEmpty (Err (EmptyRegion k)) s t = AreToldEmpty k s t
 TellsEmpty (Err Limit) s t = IsNonempty s × IsNonempty t
 TellsEmpty (Err (Memory e)) s t = IsNonempty s × IsNonempty t
 
--- the relation was found, from the work old to the work new: the walk comes to it, meets a limit, or was given up for want of memory; no region is empty
+-- the relation is the result of the walk, from the work old to the work new; or the walk meets a limit, or was cut short for want of memory; no region is empty
 abbrev pub MakesRelation : Result Rcc8 RccFault → Work → Work → Walk Work Relation → Type 0
 MakesRelation (Ok r) old new walk = walk old ≡ done (relation_of r) new
 MakesRelation (Err (EmptyRegion k)) old new walk = ⊥

@@ -1,4 +1,4 @@
--- What the program writes for the words of its command line.
+-- The output of the program for the words of its command line.
 use Rattle.std.specs.Prelude.{◌≡◌, ◌⊎◌, ℕ, Bool, true, false, ◌&&◌, nat_le, IsTrue, List, [], ◌∷◌, ◌++◌, length, take, Option, Some, None, codes, option_and_then}
 use Rattle.std.specs.List.{list_any, flat_map, slice_split}
 use Rattle.std.specs.Prelude.{◌==◌}
@@ -11,7 +11,7 @@ use Rattle.rp_reports.specs.Check.{is_accepted, IsFirstWrong}
 use Rattle.rp_reports.specs.Upgrade.{upgraded_script}
 use Rattle.rp_reports.specs.Made.{made_script, trial_lines}
 
--- what the program is asked to do
+-- a task of the program
 pub data Task : Type 0 where
   run_script : Task
   run_brief : Task
@@ -21,11 +21,11 @@ pub data Task : Type 0 where
   make_script : ℕ → ℕ → Task
   try_script : ℕ → ℕ → Task
 
--- a number within its bounds
+-- the number that a word spells, if it is within its bounds
 abbrev pub number_between : ℕ → ℕ → List ℕ → Option ℕ
 number_between least greatest word = option_and_then (λ n. elim (nat_le least n && nat_le n greatest) [ true ↦ Some n | false ↦ None ]) (natural_spelled word)
 
--- a task of two numbers, if both are there
+-- the task of two numbers, if both are there
 abbrev pub with_numbers : (ℕ → ℕ → Task) → Option ℕ → Option ℕ → Option Task
 with_numbers task (Some n) (Some seed) = Some (task n seed)
 with_numbers task _ _ = None
@@ -56,7 +56,7 @@ task_of_three word n seed =
       | false ↦ elim (bytes_eq word (codes "trial")) [ true ↦ with_numbers try_script n seed | false ↦ None ]
     ]
 
--- the task of a list of words, if it is one of those listed
+-- the task of the words of a command line; none if they are no task
 abbrev pub task_of : List (List ℕ) → Option Task
 task_of (word ∷ []) = task_of_one word
 task_of (word ∷ next ∷ []) = task_of_two word next
@@ -73,16 +73,16 @@ most_report_bytes = 67108864
 
 -- ---- every command in its one spelling
 
--- the spelling of a command in a version, and no line for any other reading
+-- the spelling of a command in a version, as one line; no line for any other reading
 abbrev pub spelled_lines : Version → Reading → List (List ℕ)
 spelled_lines v (command c) = spelling v c ∷ []
 spelled_lines v _ = []
 
--- all commands of a script in the spellings of its version, behind its mark
+-- all commands of a script in the spelling of its version, after its mark
 abbrev pub spelled_script : List ℕ → List (List ℕ)
 spelled_script bytes = let v = script_version bytes in marked script_mark v (flat_map (λ line. spelled_lines v (reading v line)) (script_body bytes))
 
--- the line is no command and not blank
+-- the line is bad: neither a command nor blank
 abbrev pub is_bad_reading : Reading → Bool
 is_bad_reading (bad f) = true
 is_bad_reading _ = false
@@ -91,9 +91,9 @@ is_bad_reading _ = false
 abbrev pub has_bad_line : List ℕ → Bool
 has_bad_line bytes = list_any (λ line. is_bad_reading (reading (script_version bytes) line)) (script_body bytes)
 
--- ---- the lines of a report that is checked: no carriage return is taken away
+-- ---- the lines of a report: no carriage return is removed
 
--- the lines of the pieces between line ends, as they stand; what stands behind the last line end is a line unless it is empty
+-- the lines of the pieces between line ends, unchanged; the piece after the last line end is a line unless it is empty
 abbrev pub whole_lines : List (List ℕ) → List (List ℕ)
 whole_lines [] = []
 whole_lines (piece ∷ []) = last_line piece
@@ -103,7 +103,7 @@ whole_lines (piece ∷ next ∷ pieces) = piece ∷ whole_lines (next ∷ pieces
 unfoldable pub report_lines : List ℕ → List (List ℕ)
 report_lines bytes = whole_lines (slice_split (λ b. b == line_end) bytes)
 
--- what is written for a report that is checked
+-- the output of the check of a report: accepted, or the number of the first wrong line
 abbrev pub IsFound : List (List ℕ) → List (List ℕ) → Type 0
 IsFound lines told = (IsTrue (is_accepted lines) × (told ≡ codes "accepted" ∷ [])) ⊎ ((k : ℕ) × IsFirstWrong lines k × (told ≡ (codes "wrong " ++ decimal k) ∷ []))
 
@@ -119,11 +119,11 @@ IsOutput upgrade_script bytes lines = lines ≡ upgraded_script bytes
 IsOutput (make_script n seed) bytes lines = lines ≡ made_script n seed
 IsOutput (try_script n seed) bytes lines = lines ≡ trial_lines n seed
 
--- the line says that something was refused
+-- the line begins with '= refused'
 abbrev pub is_refused_line : List ℕ → Bool
 is_refused_line line = bytes_eq (codes "= refused") (take (length (codes "= refused")) line)
 
--- something was refused: some line of the report says so, the report that is checked is not accepted, or some line of the script is bad
+-- something is refused: a line of the report is a refusal, the checked report is not accepted, or a line of the spelled or upgraded script is bad
 abbrev pub IsRefused : Task → List ℕ → List (List ℕ) → Type 0
 IsRefused run_script bytes lines = IsTrue (list_any is_refused_line lines)
 IsRefused run_brief bytes lines = IsTrue (list_any is_refused_line lines)

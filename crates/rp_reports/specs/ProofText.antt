@@ -1,4 +1,4 @@
--- Reading back a proof line and an echo: exactly the spellings.
+-- Reading a proof line and an echo: a line is read iff it has the one spelling.
 use Rattle.std.specs.Prelude.{ℕ, Bool, true, false, ◌&&◌, ◌||◌, not, ◌==◌, nat_le, ℤ, pos, int_le, List, [], ◌∷◌, length, take, drop, Option, Some, None, codes, filter, option_and_then}
 use Rattle.std.specs.List.{list_all, slice_split}
 use Rattle.rp_geometry.specs.Geometry.{RationalPoint, HalfSpace, half_space_of, point_of, point_eq, half_space_eq, is_half_space_in_bounds, is_zero_half_space, is_point_in_bounds, is_box_in_bounds, reduced_half_space, reduced_point}
@@ -9,7 +9,7 @@ use Rattle.rp_language.specs.Name.{label_eq}
 use Rattle.rp_language.specs.Grammar.{Word, number_spelled, natural_spelled, space}
 use Rattle.rp_reports.specs.Text.{proof_text}
 
--- ---- what may stand in a proof line
+-- ---- the values in a proof line
 
 -- a half-space within its bounds and in lowest terms
 abbrev pub is_written_half_space : HalfSpace → Bool
@@ -19,7 +19,7 @@ is_written_half_space h = is_half_space_in_bounds h && not (is_zero_half_space h
 abbrev pub is_written_point : RationalPoint → Bool
 is_written_point p = is_point_in_bounds p && int_le (pos 1) p.w && point_eq (reduced_point p) p
 
--- a multiple within its bounds
+-- a multiple of a half-space within its bounds
 abbrev pub is_written_multiple : Multiple → Bool
 is_written_multiple t = is_multiplier t.factor && is_written_half_space t.of
 
@@ -27,7 +27,7 @@ is_written_multiple t = is_multiplier t.factor && is_written_half_space t.of
 abbrev pub are_written_terms : List Multiple → Bool
 are_written_terms terms = is_one_to_four (length terms) && list_all is_written_multiple terms
 
--- a proof line whose numbers keep their bounds
+-- a proof line whose values are within their bounds
 unfoldable pub is_written : ProofLine → Bool
 is_written (in_line points) = is_one_to_four (length points) && list_all is_written_point points
 is_written (out_line terms) = are_written_terms terms
@@ -38,62 +38,62 @@ is_written (box_line b) = is_box_in_bounds b
 
 -- ---- reading
 
--- a line is read loosely first: brackets and the sign of multiplication count as spaces, and the numbers between them are taken
+-- a byte that separates words in a first, loose reading: a space, a parenthesis or an asterisk; the exact spelling is compared afterwards
 abbrev pub is_separator : ℕ → Bool
 is_separator b = b == space || b == 40 || b == 41 || b == 42
 
--- a word with at least one byte
+-- the word has at least one byte
 abbrev pub is_filled : Word → Bool
 is_filled word = nat_le 1 (length word)
 
--- the words of a line, without what separates them
+-- the words of a line, without separators
 abbrev pub loose_words : List ℕ → List Word
 loose_words line = filter is_filled (slice_split is_separator line)
 
--- a list with one more item, if both are there
+-- the list with one more item, if both are there
 abbrev pub cons_some : {A : Type 0} → Option A → Option (List A) → Option (List A)
 cons_some None o = None
 cons_some (Some x) None = None
 cons_some (Some x) (Some xs) = Some (x ∷ xs)
 
--- the numbers that words spell, if all do
+-- the numbers that words spell; none if a word spells no number
 abbrev pub numbers_spelled : List Word → Option (List ℤ)
 numbers_spelled [] = Some []
 numbers_spelled (word ∷ words) = cons_some (number_spelled word) (numbers_spelled words)
 
--- points of four numbers each
+-- the points of groups of four numbers; none if the numbers do not divide
 abbrev pub points_of_numbers : List ℤ → Option (List RationalPoint)
 points_of_numbers [] = Some []
 points_of_numbers (x ∷ y ∷ z ∷ w ∷ vs) = cons_some (Some (point_of x y z w)) (points_of_numbers vs)
 points_of_numbers _ = None
 
--- multiples of five numbers each
+-- the multiples of groups of five numbers; none if the numbers do not divide
 abbrev pub terms_of_numbers : List ℤ → Option (List Multiple)
 terms_of_numbers [] = Some []
 terms_of_numbers (t ∷ a ∷ b ∷ c ∷ d ∷ vs) = cons_some (Some (multiple_of t (half_space_of a b c d))) (terms_of_numbers vs)
 terms_of_numbers _ = None
 
--- what a function gives of a value, if there is one
+-- the value of a function at x, if there is an x
 abbrev pub map_some : {A B : Type 0} → (A → B) → Option A → Option B
 map_some f None = None
 map_some f (Some x) = Some (f x)
 
--- a proof line of one point
+-- the proof line of one point, from four numbers
 abbrev pub at_of_numbers : (RationalPoint → ProofLine) → List ℤ → Option ProofLine
 at_of_numbers f (x ∷ y ∷ z ∷ w ∷ []) = Some (f (point_of x y z w))
 at_of_numbers f _ = None
 
--- a proof line that drops a half-space
+-- the proof line of a dropped half-space, from four numbers and five for each multiple
 abbrev pub drop_of_numbers : List ℤ → Option ProofLine
 drop_of_numbers (a ∷ b ∷ c ∷ d ∷ vs) = map_some (drop_line (half_space_of a b c d)) (terms_of_numbers vs)
 drop_of_numbers _ = None
 
--- a proof line of a box
+-- the proof line of a box, from six numbers
 abbrev pub box_of_numbers : List ℤ → Option ProofLine
 box_of_numbers (x1 ∷ y1 ∷ z1 ∷ x2 ∷ y2 ∷ z2 ∷ []) = Some (box_line (record { x1 = x1; y1 = y1; z1 = z1; x2 = x2; y2 = y2; z2 = z2 }))
 box_of_numbers _ = None
 
--- the proof line of a word and numbers
+-- the proof line of a word and the numbers after it
 abbrev pub read_kind : Word → List ℤ → Option ProofLine
 read_kind kind vs =
     elim (label_eq kind (codes "in")) [
@@ -113,31 +113,31 @@ read_kind kind vs =
       ]
     ]
 
--- the proof line that loose words stand for
+-- the proof line of loose words
 abbrev pub read_words : List Word → Option ProofLine
 read_words [] = None
 read_words (kind ∷ words) = option_and_then (read_kind kind) (numbers_spelled words)
 
--- what was read, if its numbers keep their bounds and the line is exactly its text
+-- the proof line, if its values are within their bounds and its text is exactly the line
 abbrev pub if_spelled : List ℕ → ProofLine → Option ProofLine
 if_spelled line proof = elim (is_written proof && label_eq (proof_text proof) line) [ true ↦ Some proof | false ↦ None ]
 
--- the proof line that a report line spells, if it does
+-- the proof line that a report line spells; none if it spells none
 unfoldable pub proof_read : List ℕ → Option ProofLine
 proof_read line = option_and_then (if_spelled line) (read_words (loose_words line))
 
 -- ---- echo lines
 
--- a number of a line, from 1 to 16777216
+-- the number of a line, from 1 to 16777216, that a word spells
 abbrev pub line_number : Word → Option ℕ
 line_number word = option_and_then (λ n. elim (nat_le 1 n && nat_le n 16777216) [ true ↦ Some n | false ↦ None ]) (natural_spelled word)
 
--- the bytes before a space, and those after it if there is one
+-- the bytes before the first space, and those after it if there is a space
 pub record Split : Type 0 where
   pub word : Word
   pub rest : Option (List ℕ)
 
--- the bytes before and after the first space
+-- splits bytes at the first space
 abbrev pub split_at_space : List ℕ → Split
 split_at_space [] = record { word = []; rest = None }
 split_at_space (b ∷ bs) =
@@ -149,7 +149,7 @@ pub record Echo : Type 0 where
   pub number : ℕ
   pub text : Option (List ℕ)
 
--- the echo of what stands behind its mark
+-- the echo of the text after its mark: a number, and a text if there is a space
 abbrev pub echo_after_mark : Split → Option Echo
 echo_after_mark s = option_and_then (λ n. Some (record { number = n; text = s.rest })) (line_number s.word)
 

@@ -1,4 +1,4 @@
--- The report of a script: the answers of a machine that holds regions as sets of points, line by line.
+-- The report of a script: the answers of a machine whose regions are sets of points, line by line.
 use Rattle.std.specs.Prelude.{◌≡◌, ℕ, suc, ◌-◌, Bool, true, false, ◌==◌, List, [], ◌∷◌, ◌++◌, length, take, drop, codes, slice_index}
 use Rattle.std.specs.List.{slice_split}
 use Rattle.rp_language.specs.Name.{label_eq}
@@ -11,16 +11,16 @@ use Rattle.rp_reports.specs.Text.{Answer, answer_lines, line_end}
 
 -- ---- the lines of a script
 
--- a line without the one carriage return at its end
+-- a line without one carriage return at its end
 abbrev pub without_return : List ℕ → List ℕ
 without_return line = elim (slice_index line (length line - 1) == 13) [ true ↦ take (length line - 1) line | false ↦ line ]
 
--- what stands behind the last line end is a line unless it is empty
+-- the piece after the last line end, as a line unless it is empty
 abbrev pub last_line : List ℕ → List (List ℕ)
 last_line [] = []
 last_line (b ∷ bs) = (b ∷ bs) ∷ []
 
--- the lines of the pieces between line ends: each but the last loses its carriage return
+-- the lines of the pieces between line ends; each piece except the last loses one carriage return at its end
 abbrev pub lines_of_pieces : List (List ℕ) → List (List ℕ)
 lines_of_pieces [] = []
 lines_of_pieces (piece ∷ []) = last_line piece
@@ -32,25 +32,25 @@ script_lines bytes = lines_of_pieces (slice_split (λ b. b == line_end) bytes)
 
 -- ---- versions
 
--- the line that begins a script of the second version
+-- the line that begins a script of version 2
 abbrev pub script_mark : List ℕ
 script_mark = codes "rp 2"
 
--- the line that begins its report
+-- the line that begins the report of a script of version 2
 abbrev pub report_mark : List ℕ
 report_mark = codes "> 0 rp 2"
 
--- the second version where the first line is the mark, else the first
+-- version 2 if the first line is the mark, otherwise version 1
 abbrev pub version_by : List ℕ → List (List ℕ) → Version
 version_by mark [] = one
 version_by mark (line ∷ lines) = elim (label_eq line mark) [ true ↦ two | false ↦ one ]
 
--- the lines without the mark
+-- the lines without the mark of their version
 abbrev pub body_of : Version → List (List ℕ) → List (List ℕ)
 body_of one lines = lines
 body_of two lines = drop 1 lines
 
--- the lines behind the mark, if the version has one
+-- the lines after the mark of their version, if it has one
 abbrev pub marked : List ℕ → Version → List (List ℕ) → List (List ℕ)
 marked mark one lines = lines
 marked mark two lines = mark ∷ lines
@@ -59,18 +59,18 @@ marked mark two lines = mark ∷ lines
 unfoldable pub script_version : List ℕ → Version
 script_version bytes = version_by script_mark (script_lines bytes)
 
--- the body of a script: its lines that are read, the first of which has the number 1
+-- the body of a script: its lines without the mark; the first has the number 1
 unfoldable pub script_body : List ℕ → List (List ℕ)
 script_body bytes = body_of (script_version bytes) (script_lines bytes)
 
 -- ---- the machine of sets
 
--- what is echoed of a bad line: nothing of a line that is too long
+-- the echoed bytes of a bad line: none if it is too long
 abbrev pub echoed : Fault → List ℕ → List ℕ
 echoed too_long line = []
 echoed _ line = line
 
--- the answer to a blank line: it says nothing
+-- the answer to a blank line: an empty echo and no lines
 abbrev pub blank_answer : ℕ → Answer
 blank_answer n = record { number = n; echo = []; proofs = []; verdicts = [] }
 
@@ -85,24 +85,24 @@ pub record AnswersCommand (s : State) (n : ℕ) (line : List ℕ) (c : Command) 
   pub proofs : a.proofs ≡ proofs_of s c
   pub verdicts : rule_of s c a.verdicts
 
--- the answer to the line with the number, as it is read
+-- the answer to line n by its reading
 abbrev pub IsAnswerTo : State → ℕ → List ℕ → Reading → Answer → Type 0
 IsAnswerTo s n line blank a = a ≡ blank_answer n
 IsAnswerTo s n line (bad f) a = a ≡ bad_answer n line f
 IsAnswerTo s n line (command c) a = AnswersCommand s n line c a
 
--- the state after the line with the number, as it is read
+-- the state after line n by its reading
 abbrev pub after_reading : ℕ → State → Reading → State
 after_reading n s (command c) = after_command n s c
 after_reading n s _ = s
 
--- the report lines, full or brief, of some lines of a script of a version from a state on; the first of them has the number
+-- the report lines, full or brief, of some lines of a script, from a state on; the first line has the number n
 abbrev pub IsReportFrom : Version → Bool → State → ℕ → List (List ℕ) → List (List ℕ) → Type 0
 IsReportFrom v brief s n [] told = told ≡ []
 IsReportFrom v brief s n (line ∷ lines) told =
     (a : Answer) × (rest : List (List ℕ)) × IsAnswerTo s n line (reading v line) a × IsReportFrom v brief (after_reading n s (reading v line)) (suc n) lines rest × (told ≡ answer_lines brief a ++ rest)
 
--- the report lines of a script, full or brief, behind the mark of its version
+-- the report lines of a script, full or brief, after the mark of its version
 abbrev pub IsReportOf : Bool → List ℕ → List (List ℕ) → Type 0
 IsReportOf brief bytes told =
     (rest : List (List ℕ)) × IsReportFrom (script_version bytes) brief opening 1 (script_body bytes) rest × (told ≡ marked report_mark (script_version bytes) rest)
@@ -111,6 +111,6 @@ IsReportOf brief bytes told =
 abbrev pub IsReport : List ℕ → List (List ℕ) → Type 0
 IsReport bytes told = IsReportOf false bytes told
 
--- the report lines of a script without the proof lines
+-- the report lines of a script, without the proof lines
 abbrev pub IsBriefReport : List ℕ → List (List ℕ) → Type 0
 IsBriefReport bytes told = IsReportOf true bytes told

@@ -1,4 +1,4 @@
--- What is known where the row of a command meets a limit: the refusals that stand before the limit do not hold of the sets.
+-- The laws of a row that meets a limit: the refusals that come before the limit do not hold of the sets.
 use Rattle.std.specs.Prelude.{◌≡◌, ℕ, ◌+◌, List, [], ◌∷◌, length, None}
 use Rattle.std.specs.List.{AllByRecursion}
 use Rattle.rp_language.specs.Name.{Label}
@@ -18,12 +18,12 @@ use Rattle.rp_model.specs.commands.Parts.{parts_with_id, joined_parts, count_amo
 use Rattle.rp_model.specs.commands.Sets.{set_of, set_with_id}
 use Rattle.rp_model.specs.commands.Rule.{walked}
 
--- the fact holds of what a walk comes to and of the work as it is then, where it is not stopped
+-- the property holds of the result of a walk and of the work at its end, if it is not stopped
 abbrev pub IfDoneWith : {W A : Type 0} → Outcome W A → (A → W → Type 0) → Type 0
 IfDoneWith (done x w) P = P x w
 IfDoneWith (stopped e w) P = Unit {0}
 
--- no refusal but that of a label stands before a limit
+-- no refusal except that of a label comes before a limit
 abbrev pub NoRefusal : Type 0
 NoRefusal = Unit {0}
 
@@ -32,7 +32,7 @@ abbrev pub NoLimit : Type 0
 NoLimit = ⊥
 
 module _ {W : Type 0} (tester : Tester W) (s : State) where
-  -- the names pass; where the join is done, the lot and the set overlap; where the difference is done too, the lot is not within the set
+  -- the names pass; if the join is done, the lot and the set overlap; if the difference is done too, the lot is not within the set
   abbrev pub PassedByCut : Label → Shape → List Part → Label → Label → W → Type 0
   PassedByCut x a ps first second w =
       (check_cut s x first second ≡ None)
@@ -46,21 +46,21 @@ module _ {W : Type 0} (tester : Tester W) (s : State) where
   AreWithinSoFar x (c ∷ cs) [] w = Unit {0}
   AreWithinSoFar x (c ∷ cs) (f ∷ fs) w = IfDoneWith (is_covered tester f.parts (parts_with_id s x) w) (λ _ v. IsWithin (set_of s c.shape) (set_with_id s x) × AreWithinSoFar x cs fs v)
 
-  -- where the search for a child outside, the count and the search over pairs are done, no two children overlap
+  -- if the search for a child outside, the count and the search of pairs are done, no two children overlap
   abbrev pub AreApartIfSearched : Label → List Child → List FormedChild → W → Type 0
   AreApartIfSearched x cs fs w =
       IfDoneWith (first_outside_child tester (parts_with_id s x) 1 fs w) (λ _ v.
       IfDoneWith (tester.count (count_among near_pair (child_parts fs)) v) (λ _ u.
       IfDoneWith (first_overlapping_children tester 1 fs u) (λ _ _. Pairwise (λ a b. ¬ Overlaps a b) (child_sets s cs))))
 
-  -- the names pass, and each child has a member; where the size is kept, the children that the walk came to are within the lot, and those that it compared are apart
+  -- the names pass, and each child has a member; if the size is within its limit, the children tested are within the lot, and those compared are apart
   abbrev pub PassedBySubdivide : Label → List Child → List FormedChild → W → Type 0
   PassedBySubdivide x cs fs w =
       (check_subdivide s x (child_ids cs) ≡ None)
       × AllByRecursion IsNonempty (child_sets s cs)
       × IfDoneWith (check_size (parts_under_lots s.lots + length (joined_parts (child_parts fs))) most_kept_parts w) (λ _ v. AreWithinSoFar x cs fs v × AreApartIfSearched x cs fs v)
 
-  -- what a command all of whose labels stand for something has passed where its row, walked from this work on, meets a limit
+  -- the checks that a command with known labels has passed, if its row, walked from this work on, meets a limit
   abbrev pub PassedBy : Command → W → Type 0
   PassedBy (define x e) w = IfDoneWith (form tester (parts_in s) e w) (λ _ _. check_name s x ≡ None)
   PassedBy (ask_member e p) w = NoLimit
@@ -87,7 +87,7 @@ module _ {W : Type 0} (tester : Tester W) (s : State) where
   PassedBy (ask_section e z) w = NoRefusal
   PassedBy (ask_access x y) w = check_access s x y ≡ None
 
--- in a sound state, where the row of a command meets a limit, no label is missing and no refusal that stands before the limit holds
+-- in a sound state, if the row of a command meets a limit, no label is missing, and no refusal that comes before the limit holds
 abbrev pub LimitComesAfterRefusals : Type 0
 LimitComesAfterRefusals = (s : State) → IsSound s → (v : Version) (line : List ℕ) (c : Command) → reading v line ≡ command c → (w : Work) → walked s c ≡ stopped limit_met w →
     (first_unknown_among (sets_in s) (expressions_of c) ≡ None) × PassedBy first_tester s c no_work

@@ -14,6 +14,6 @@ told_chain (Some ids) = Verdict.access (length ids.items - 1) ∷ map Verdict.pa
 abbrev pub told_levels : List (ℕ × Label) → List Verdict
 told_levels levels = map (λ l. Verdict.level l.0 l.1) levels
 
--- the verdict lines of both
+-- the verdict lines of an access: those of its chain, and then those of its levels
 abbrev pub told_access : Access → List Verdict
 told_access a = told_chain a.chain ++ told_levels a.levels.items

@@ -1,4 +1,4 @@
--- The questions about points and forms: what comes behind the forms, and the operands as the model has them.
+-- The questions about points and forms: the rows after their forms, and the operands as the model has them.
 use Rattle.std.specs.Prelude.{List, [], ◌∷◌, option_map}
 use Rattle.rp_geometry.specs.Geometry.{RationalPoint}
 use Rattle.rp_geometry.specs.sets.Shape.{Part, is_member}
@@ -24,11 +24,11 @@ both_of view (a, b) = (view (form_of a), view (form_of b))
 abbrev pub row_of_member : {W : Type 0} → Meaning (List Part) → Expression → RationalPoint → Walk W Reply
 row_of_member m e p = check (option_map unknown (first_unknown_among m (e ∷ []))) (pass (yes_or_no (is_member (resolve_names (shapes_of_parts m) e) p)))
 
--- behind its form, the parts are told
+-- the row of show after its form: the verdict lines of the parts
 abbrev pub row_show : {W : Type 0} → List Part → Walk W Reply
 row_show ps = pass (reply_lines (part_lines_of ps))
 
--- behind two forms, a question of them is answered
+-- the row of a question after its two forms: the answer
 abbrev pub row_asking : {W : Type 0} → Tester W → Question → List Part → List Part → Walk W Reply
 row_asking tester Equal ps qs = row_equal tester ps qs
 row_asking tester Within ps qs = row_within tester ps qs

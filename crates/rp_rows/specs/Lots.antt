@@ -1,4 +1,4 @@
--- Lots that are found by their ids, the lines of those that are live, and what a history tells of a lot.
+-- Lots found by their ids, the verdict lines of live lots, and the entries of a history.
 use Rattle.std.specs.Prelude.{List, [], ◌∷◌, ◌++◌, length, Result}
 use Rattle.std.specs.Option.{option_to_list}
 use Rattle.rp_language.specs.Name.{Label}
@@ -16,10 +16,10 @@ abbrev pub lots_under : {S : Type 0} → List Label → List (Lot S) → List (L
 lots_under [] lots = []
 lots_under (x ∷ ids) lots = option_to_list (lot_with_id x lots) ++ lots_under ids lots
 
--- the lines of the live lots, with their number before them
+-- the verdict lines of the live lots, after their number
 abbrev pub list_lines : {S : Type 0} → List (Lot S) → List Verdict
 list_lines lots = Verdict.parcels (length (live_lots lots)) ∷ lot_lines (live_lots lots)
 
--- the row of a history was answered from some lots, beside no work
+-- the row of history was answered from some lots, without any work
 abbrev pub TellsHistory : Result (Listed CodeVerdict) RowEnd → Label → List (Lot (Unit {0})) → Type 0
 TellsHistory r x lots = Tells r (tt {0}) (row_history (lots_in [] lots) x (tt {0}))

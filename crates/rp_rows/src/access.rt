@@ -11,8 +11,8 @@ use std::alloc::{AllocError, Global};
 /// Levels, each with the id of its lot.
 pub type Levels = Listed<(u32, Name)>;
 
-/// A shortest chain of lots in contact, if there is one, and for each lot that has a chain how many steps a shortest
-/// one has. A chain has at most 65,536 lots.
+/// A shortest chain of lots in contact, if there is one. For each lot with a chain, the number of steps of a shortest
+/// one. A chain has at most 65,536 lots.
 #[derive(Drop)]
 pub struct Access {
     pub chain: Option<Names>,
@@ -28,8 +28,12 @@ impl Access {
     ghost use Rattle.rp_access.specs.Chain.{IsBelow};
     ghost use Rattle.rp_rows.specs.Access.{told_access};
 
-    /// Access from `from` to `to`, both of `ids`, where the lots of each of `pairs` are in contact; a lot's number is
-    /// the place of its id in `ids`.
+    /// Returns access from `from` to `to`, both in `ids`. The lots of each of `pairs` are in contact; the number of a
+    /// lot is the index of its id in `ids`.
+    ///
+    /// # Errors
+    ///
+    /// `AllocError` if memory runs out.
     pub fn along(
         alloc: Global,
         ids: &[Name],

@@ -13,7 +13,7 @@ use rp_eval::PieceList;
 use rp_oracle::Oracle;
 use std::alloc::{AllocError, Global};
 
-/// The verdict lines of the parts of a form; the half-spaces are moved.
+/// Returns the verdict lines of the parts of `form`, whose half-spaces are moved into them.
 pub(crate) fn part_lines<T: Oracle>(alloc: Global, form: T::Form) -> Result<Verdicts, AllocError>
     requires { length (T.parts_of form) ≤ most_parts }
     ensures { IfOk result (λ lines. map verdict_of lines.items ≡ part_lines_of (T.parts_of form)) }
@@ -26,7 +26,7 @@ pub(crate) fn part_lines<T: Oracle>(alloc: Global, form: T::Form) -> Result<Verd
     Ok(lines)
 }
 
-/// The verdict lines of pieces; their numbers are moved.
+/// Returns the verdict lines of `pieces`, whose numbers are moved into them.
 pub(crate) fn piece_lines(alloc: Global, pieces: PieceList) -> Result<Verdicts, AllocError>
     requires { length pieces.items ≤ most_parts }
     ensures { IfOk result (λ lines. map verdict_of lines.items ≡ piece_lines (numbers_of pieces)) }
@@ -39,7 +39,11 @@ pub(crate) fn piece_lines(alloc: Global, pieces: PieceList) -> Result<Verdicts, 
     Ok(lines)
 }
 
-/// The verdict lines of `slices`, which are moved.
+/// Returns the verdict lines of `slices`, which are moved into them.
+///
+/// # Errors
+///
+/// `AllocError` if memory runs out.
 pub fn slice_lines(alloc: Global, slices: Listed<Slice>) -> Result<Verdicts, AllocError>
     requires { length slices.items ≤ most_parts }
     ensures { IfOk result (λ lines. map verdict_of lines.items ≡ section_lines (map slice_shown slices.items)) }

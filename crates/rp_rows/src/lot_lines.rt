@@ -14,7 +14,7 @@ use rp_history::{History, LotLine};
 use rp_lists::{Name, Names};
 use std::alloc::{AllocError, Global};
 
-/// The verdict that tells an owner.
+/// Returns the verdict for `owner`: the parcel, or that there is none.
 pub fn owner_verdict(owner: Option<Name>) -> Verdict
     ensures { verdict_of result ≡ owner_verdict owner }
 {
@@ -24,7 +24,11 @@ pub fn owner_verdict(owner: Option<Name>) -> Verdict
     }
 }
 
-/// The verdict lines that tell `ids` as neighbours.
+/// Returns the verdict lines of the neighbours `ids`.
+///
+/// # Errors
+///
+/// `AllocError` if memory runs out.
 pub fn neighbour_lines(alloc: Global, ids: &[Name]) -> Result<Verdicts, AllocError>
     requires { length ids.now ≤ most_kept_parts }
     ensures { IfOk result (λ lines. map verdict_of lines.items ≡ neighbour_lines ids.now) }
@@ -32,7 +36,11 @@ pub fn neighbour_lines(alloc: Global, ids: &[Name]) -> Result<Verdicts, AllocErr
     parcel_lines(alloc, Verdict::Neighbours(ids.len() as u32), ids)
 }
 
-/// The verdict lines of `access`: those of its chain, and then those of its levels.
+/// Returns the verdict lines of `access`: those of its chain, and then those of its levels.
+///
+/// # Errors
+///
+/// `AllocError` if memory runs out.
 pub fn access_lines(alloc: Global, access: &Access) -> Result<Verdicts, AllocError>
     ensures { IfOk result (λ lines. map verdict_of lines.items ≡ told_access access.now) }
 {
@@ -49,7 +57,7 @@ pub fn access_lines(alloc: Global, access: &Access) -> Result<Verdicts, AllocErr
     Ok(lines)
 }
 
-/// A verdict line, and one for each of some ids.
+/// Returns the line of `first`, and one line for each of `ids`.
 fn parcel_lines(alloc: Global, first: Verdict, ids: &[Name]) -> Result<Verdicts, AllocError>
     ensures { IfOk result (λ lines. map verdict_of lines.items ≡ verdict_of first ∷ map ModelVerdict.parcel ids.now) }
 {
@@ -60,7 +68,7 @@ fn parcel_lines(alloc: Global, first: Verdict, ids: &[Name]) -> Result<Verdicts,
     Ok(lines)
 }
 
-/// The verdict line of a lot.
+/// Returns the verdict line of `lot`.
 pub(crate) fn lot_line(alloc: Global, lot: &LotLine) -> Result<Verdict, AllocError>
     ensures { IfOk result (λ line. verdict_of line ∷ [] ≡ lot_lines (lot_of lot.now ∷ [])) }
 {
@@ -73,7 +81,7 @@ pub(crate) fn lot_line(alloc: Global, lot: &LotLine) -> Result<Verdict, AllocErr
     }))
 }
 
-/// The lot of an id.
+/// Returns the lot `id` of `history`; `None` iff it was never registered.
 fn lot_under<'a>(history: &'a History, id: &Name) -> Option<&'a LotLine>
     ensures { option_map lot_of (option_copied result) ≡ lot_with_id id.now history.now }
 {
@@ -81,7 +89,7 @@ fn lot_under<'a>(history: &'a History, id: &Name) -> Option<&'a LotLine>
     Some(&history.lots()[place])
 }
 
-/// Appends the lines of the lots of some ids, in the order of the ids.
+/// Appends the lines of the lots `ids` to `lines`, in the order of `ids`. Ids that were never registered have no line.
 pub(crate) fn add_each(
     alloc: Global,
     history: &History,

@@ -11,7 +11,11 @@ use rp_history::History;
 use rp_lists::Name;
 use std::alloc::{AllocError, Global};
 
-/// `history`: the lot and all lots that it was made from.
+/// Answers `history`: returns the verdict lines of the lot `id` and of all lots from which it was made.
+///
+/// # Errors
+///
+/// `Refused(Unknown(id))` iff `id` was never registered; otherwise only want of memory.
 pub fn lineage(alloc: Global, history: &History, id: Name) -> Result<Verdicts, RowEnd>
     requires { length history.now ≤ most_kept_parts }
     ensures { TellsHistory result id history.now }
@@ -25,7 +29,11 @@ pub fn lineage(alloc: Global, history: &History, id: Name) -> Result<Verdicts, R
     Ok(lines)
 }
 
-/// `list`: the live lots of `history`.
+/// Answers `list`: returns the verdict lines of the live lots of `history`.
+///
+/// # Errors
+///
+/// `AllocError` if memory runs out.
 pub fn list(alloc: Global, history: &History) -> Result<Verdicts, AllocError>
     requires { length history.now ≤ most_kept_parts }
     ensures { IfOk result (λ lines. map verdict_of lines.items ≡ list_lines history.now) }
@@ -35,7 +43,7 @@ pub fn list(alloc: Global, history: &History) -> Result<Verdicts, AllocError>
     Ok(lines)
 }
 
-/// Appends the lines of the live lots of `history`.
+/// Appends the lines of the live lots of `history` to `lines`.
 fn add_live(alloc: Global, history: &History, lines: &mut Verdicts) -> Result<(), AllocError>
     ensures { OnOk result (map verdict_of lines.new.items ≡ map verdict_of lines.old.items ++ lot_lines (live_lots history.now)) }
 {

@@ -1,4 +1,4 @@
-//! Ids and their numbers, which are their places in a list.
+//! Ids and their numbers, which are their indexes in a list.
 ghost use Rattle.std.specs.Prelude.{◌≡◌, ◌<◌, ◌≤◌, IfOk, IfSome, length, option_map};
 ghost use Rattle.rp_model.specs.states.State.{place_among, most_kept_parts};
 ghost use Rattle.rp_model.specs.commands.Verdict.{chain_lines, level_lines};
@@ -10,7 +10,7 @@ use rp_access::Route;
 use rp_lists::{Name, Names};
 use std::alloc::{AllocError, Global};
 
-/// The number of an id, which is one of these.
+/// Returns the number of `id`, which is in `ids`.
 pub(crate) fn number_of(ids: &[Name], id: &Name) -> u32
     requires few { length ids.now ≤ most_kept_parts }
     requires there { place_among id.now ids.now < length ids.now }
@@ -24,7 +24,7 @@ pub(crate) fn number_of(ids: &[Name], id: &Name) -> u32
     unreachable!()
 }
 
-/// The ids of a chain, if there is one, for its numbers.
+/// Returns the ids of the chain `route`, if there is one.
 pub(crate) fn named_chain(
     alloc: Global,
     ids: &[Name],
@@ -45,7 +45,7 @@ pub(crate) fn named_chain(
     Ok(Some(names))
 }
 
-/// The levels that are there, each with its id.
+/// Returns the levels that are there, each with its id.
 pub(crate) fn named_levels(
     alloc: Global,
     ids: &[Name],

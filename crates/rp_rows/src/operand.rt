@@ -15,7 +15,7 @@ use rp_eval::{Operand, first_unknown, operand_of};
 use rp_oracle::{Named, Oracle};
 use std::alloc::Global;
 
-/// The first name or lot of two expressions, in reading order, that isn't there.
+/// Returns the first name or lot of two expressions, in reading order, that `named` does not know.
 fn first_unknown_of<T: Oracle, N: Named<T>>(named: &N, first: &Expr, second: &Expr) -> Option<Name>
     ensures { result ≡ first_unknown_among (N.meaning named.now) (expression_of first.now ∷ expression_of second.now ∷ []) }
 {
@@ -25,9 +25,13 @@ fn first_unknown_of<T: Oracle, N: Named<T>>(named: &N, first: &Expr, second: &Ex
     }
 }
 
-/// The forms of `first` and `second`, the two expressions of a command, behind which its row goes on; `tests` make that
-/// of `first` and then that of `second`. `Refused` exactly for the first name or lot of the two, in reading order, that
-/// `named` does not know; it comes before any test.
+/// Returns the forms of `first` and `second`, the two expressions of a command. `tests` makes the form of `first` and
+/// then that of `second`.
+///
+/// # Errors
+///
+/// `Refused(Unknown)` iff `named` does not know a name or lot of the two; it gives the first in reading order, before
+/// any test. Otherwise a stop of `tests`.
 pub fn row_operands<'a, T: Oracle, N: Named<T>>(
     alloc: Global,
     named: &'a N,

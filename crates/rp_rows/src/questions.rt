@@ -17,8 +17,12 @@ use rp_space::Point;
 use rp_oracle::{Named, Oracle};
 use std::alloc::Global;
 
-/// `member`: whether `point` is a member of `region`, by signs. It rests on no test and has no limit. `Refused` exactly
-/// for the first name or lot of `region`, in reading order, that `named` does not know.
+/// Answers `member`: returns whether `point` is a member of `region`, by signs. No test is made, and no limit applies.
+///
+/// # Errors
+///
+/// `Refused(Unknown)` iff `named` does not know a name or lot of `region`; it gives the first in reading order.
+/// Otherwise only want of memory.
 pub fn membership<T: Oracle, N: Named<T>>(
     alloc: Global,
     named: &N,
@@ -34,8 +38,12 @@ pub fn membership<T: Oracle, N: Named<T>>(
     Ok(yes_or_no(alloc, is_member::<T, N>(named, region, point))?)
 }
 
-/// `empty`: whether the form of `region`, which `tests` make, has no part. `Refused` exactly for the first name or lot
-/// of `region`, in reading order, that `named` does not know; it comes before any test.
+/// Answers `empty`: returns whether the form of `region`, which `tests` makes, has no part.
+///
+/// # Errors
+///
+/// `Refused(Unknown)` iff `named` does not know a name or lot of `region`; it gives the first in reading order, before
+/// any test. Otherwise a stop of `tests`.
 pub fn emptiness<T: Oracle, N: Named<T>>(
     alloc: Global,
     named: &N,
@@ -50,9 +58,13 @@ pub fn emptiness<T: Oracle, N: Named<T>>(
     Ok(yes_or_no(alloc, is_so)?)
 }
 
-/// `pieces`: what of `region` hangs together, by the numbers of the parts of its form; `tests` make the form and tell
-/// which parts are in contact. `Refused` exactly for the first name or lot of `region`, in reading order, that `named`
-/// does not know; it comes before any test.
+/// Answers `pieces`: returns the connected pieces of `region`, by the numbers of the parts of its form. `tests` makes
+/// the form and tests which parts are in contact.
+///
+/// # Errors
+///
+/// `Refused(Unknown)` iff `named` does not know a name or lot of `region`; it gives the first in reading order, before
+/// any test. Otherwise a stop of `tests`.
 pub fn piece_numbers<T: Oracle, N: Named<T>>(
     alloc: Global,
     named: &N,
@@ -67,8 +79,12 @@ pub fn piece_numbers<T: Oracle, N: Named<T>>(
     Ok(piece_lines(alloc, pieces)?)
 }
 
-/// `show`: the parts of the form of `region`, which `tests` make. `Refused` exactly for the first name or lot of
-/// `region`, in reading order, that `named` does not know; it comes before any test.
+/// Answers `show`: returns the parts of the form of `region`, which `tests` makes.
+///
+/// # Errors
+///
+/// `Refused(Unknown)` iff `named` does not know a name or lot of `region`; it gives the first in reading order, before
+/// any test. Otherwise a stop of `tests`.
 pub fn shown_parts<T: Oracle, N: Named<T>>(
     alloc: Global,
     named: &N,
@@ -82,9 +98,13 @@ pub fn shown_parts<T: Oracle, N: Named<T>>(
     Ok(part_lines::<T>(alloc, form)?)
 }
 
-/// `equal`, `within`, `overlap` and `contact`: the answer to `question` about the forms of `first` and `second`, by
-/// `tests`. `Refused` exactly for the first name or lot of the two, in reading order, that `named` does not know; it
-/// comes before any test.
+/// Answers `equal`, `within`, `overlap` or `contact`: returns the answer to `question` about the forms of `first` and
+/// `second`, by `tests`.
+///
+/// # Errors
+///
+/// `Refused(Unknown)` iff `named` does not know a name or lot of the two; it gives the first in reading order, before
+/// any test. Otherwise a stop of `tests`.
 pub fn comparison<T: Oracle, N: Named<T>>(
     alloc: Global,
     named: &N,
@@ -101,7 +121,7 @@ pub fn comparison<T: Oracle, N: Named<T>>(
     compared(alloc, question, first.form(), second.form(), tests)
 }
 
-/// The answer to a question of two forms.
+/// Returns the verdict line of the answer to `question` about two forms.
 fn compared<T: Oracle>(
     alloc: Global,
     question: Question,
@@ -115,9 +135,13 @@ fn compared<T: Oracle>(
     Ok(yes_or_no(alloc, is_so)?)
 }
 
-/// `rcc`: in which of the eight relations `first` stands to `second`, by `tests`. `Refused` exactly for the first name
-/// or lot of the two, in reading order, that `named` does not know, before any test; or else, once both forms are made,
-/// for `first` or else `second`, where it has no point.
+/// Answers `rcc`: returns which of the eight relations `first` has to `second`, by `tests`.
+///
+/// # Errors
+///
+/// `Refused(Unknown)` iff `named` does not know a name or lot of the two; it gives the first in reading order, before
+/// any test. `Refused(EmptyRegion)` if, once both forms are made, `first` has no point, or else `second`. Otherwise a
+/// stop of `tests`.
 pub fn related<T: Oracle, N: Named<T>>(
     alloc: Global,
     named: &N,

@@ -11,7 +11,7 @@ use rp_eval::{Rcc8, found_relation};
 use rp_oracle::Oracle;
 use std::alloc::Global;
 
-/// The verdict line of the relation of two forms, of which each must have a part.
+/// Returns the verdict line of the relation of `a` to `b`. Refuses the first of the two that has no part.
 pub(crate) fn relation<T: Oracle>(
     alloc: Global,
     a: &T::Form,
@@ -30,7 +30,7 @@ pub(crate) fn relation<T: Oracle>(
     Ok(one_line(alloc, relation_verdict(relation))?)
 }
 
-/// The verdict of a relation.
+/// Returns the verdict of a relation.
 fn relation_verdict(relation: Rcc8) -> Verdict
     ensures { verdict_of result ≡ ModelVerdict.relation (relation_of relation) }
 {

@@ -11,14 +11,14 @@ use std::alloc::{AllocError, Global};
 use std::process::Abort;
 use std::thread::Threads;
 
-/// A machine for a script of a version that has answered no line yet.
+/// Returns a machine for a script of `version`, before its first line.
 fn opened(alloc: Global, version: Version) -> Result<Machine, AllocError>
     ensures { IfOk result (λ m. IsLaterThan 1 (state_of_parts m.state)) }
 {
     Machine::new(alloc, version)
 }
 
-/// Takes one line: the echo and the verdict lines of its answer.
+/// Takes one line, and returns the echo and the verdict lines of its answer.
 fn told<R: Abort + Threads + Sync>(
     rt: &R,
     alloc: Global,

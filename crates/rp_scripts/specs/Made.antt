@@ -15,7 +15,7 @@ made_line (Neighbours i) = codes "neighbours s" ++ decimal i ++ codes "a"
 made_line Audit = codes "audit"
 made_line Lots = codes "list"
 
--- how many storeys have begun and not ended
+-- the number of storeys that have begun and not ended
 abbrev pub begun : Stage → ℕ
 begun Between = 0
 begun Registered = 1
@@ -23,7 +23,7 @@ begun Divided = 1
 begun Audited = 0
 begun Listed = 0
 
--- the lines that are still to come: those of the storey with the number, if it has begun, those of so many further storeys, and those behind all
+-- the lines still to come: those of storey i, if it has begun, those of n further storeys, and the last ones
 abbrev pub lines_to_come : Stage → ℕ → ℕ → ℕ → List (List ℕ)
 lines_to_come Between i n seed = building_lines n i seed
 lines_to_come Registered i n seed =

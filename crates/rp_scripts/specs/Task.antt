@@ -1,4 +1,4 @@
--- What the words of a command line ask for, as a task of the model.
+-- The task of the words of a command line, as a task of the model.
 use Rattle.std.specs.Prelude.{ℕ}
 use Rattle.rp_reports.specs.Output.{Task as ModelTask, run_script, run_brief, check_report, spell_script, upgrade_script, make_script, try_script}
 use Rattle.rp_scripts.specs.declared.task.Task.{Task}
@@ -8,19 +8,19 @@ use Rattle.rp_scripts.specs.declared.task.GivenTask.TheVariants.{Run, RunBrief, 
 use Rattle.rp_scripts.specs.declared.task.MadeTask.{MadeTask}
 use Rattle.rp_scripts.specs.declared.task.MadeTask.TheVariants.{Write, Try}
 
--- the task of the model, with a script that is read
+-- the task of the model for a task with a script to read
 abbrev pub meaning_of_given : GivenTask → ModelTask
 meaning_of_given Run = run_script
 meaning_of_given RunBrief = run_brief
 meaning_of_given Spell = spell_script
 meaning_of_given Upgrade = upgrade_script
 
--- the task of the model, with the script of a building
+-- the task of the model for a task with the script of a building
 abbrev pub meaning_of_made : MadeTask → ℕ → ℕ → ModelTask
 meaning_of_made Write n seed = make_script n seed
 meaning_of_made Try n seed = try_script n seed
 
--- the task of the model
+-- the task of the model for a task of the code
 abbrev pub meaning_of : Task → ModelTask
 meaning_of (Given t) = meaning_of_given t
 meaning_of Check = check_report

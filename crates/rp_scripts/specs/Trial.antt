@@ -1,4 +1,4 @@
--- What is counted in a report, answer by answer.
+-- The counts in a report, answer by answer.
 use Rattle.std.specs.Prelude.{ℕ, ◌+◌, ◌*◌, ◌^◌, ◌≤◌, List, [], ◌∷◌, length, codes, count_by}
 use Rattle.rp_model.specs.states.State.{live_lots}
 use Rattle.rp_reports.specs.Text.{Answer}

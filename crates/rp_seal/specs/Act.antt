@@ -29,7 +29,7 @@ entry_of a = record {
 abbrev pub text_bytes : List ℕ → List ℕ
 text_bytes text = to_be_bytes w64 (length text) ++ text
 
--- a byte 0 if there is no text, else a byte 1 and the bytes of the text
+-- a byte 0 if there is no text; otherwise a byte 1 and the bytes of the text
 abbrev pub option_bytes : Option (List ℕ) → List ℕ
 option_bytes None = 0 ∷ []
 option_bytes (Some text) = 1 ∷ text_bytes text

@@ -26,7 +26,7 @@ pub record IsSubtree (p : Subtree) (hashes : List (List ℕ)) : Type 0 where
   pub power : IsPowerOfTwo p.size
   pub root : p.root ≡ root_of hashes
 
--- the first subtree, if there is one, has more than so many leaves
+-- the first subtree, if there is one, has more than `size` leaves
 abbrev pub IsAbove : ℕ → List Subtree → Type 0
 IsAbove size [] = Unit {0}
 IsAbove size (q ∷ qs) = size < q.size
@@ -36,7 +36,7 @@ abbrev pub AreSubtrees : List Subtree → List (List ℕ) → Type 0
 AreSubtrees [] hashes = hashes ≡ []
 AreSubtrees (p ∷ ps) hashes = (before : List (List ℕ)) × (own : List (List ℕ)) × (hashes ≡ before ++ own) × IsSubtree p own × IsAbove p.size ps × AreSubtrees ps before
 
--- whether the first subtree has so many leaves
+-- the first subtree has `size` leaves
 abbrev pub has_size : List Subtree → ℕ → Bool
 has_size [] size = false
 has_size (q ∷ qs) size = nat_eq q.size size

@@ -1,4 +1,4 @@
--- What a compact tree stands for.
+-- The view of a compact tree.
 use Rattle.std.specs.Prelude.{ℕ, List}
 use Rattle.rp_seal.specs.declared.tree.CompactTree.{CompactTree}
 use Rattle.rp_seal.specs.Peaks.{AreSubtrees, subtrees_of}

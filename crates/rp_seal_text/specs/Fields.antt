@@ -9,7 +9,7 @@ number_line name n = name ++ 32 ∷ decimal n ++ 10 ∷ []
 abbrev pub text_field : List ℕ → List ℕ → List ℕ
 text_field name text = number_line name (length text) ++ text ++ 10 ∷ []
 
--- the line "no NAME" if there is no text, else the text
+-- the line "no NAME" if there is no text; otherwise the text
 abbrev pub option_field : List ℕ → Option (List ℕ) → List ℕ
 option_field name None = codes "no " ++ name ++ 10 ∷ []
 option_field name (Some text) = text_field name text

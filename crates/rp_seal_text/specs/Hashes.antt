@@ -9,7 +9,7 @@ pub record IsHash (hash : List ℕ) : Type 0 where
   pub sized : length hash ≡ 32
   pub bytes : IsBytes hash
 
--- each of a list is a hash
+-- each item of the list is a hash
 abbrev pub AreHashes : List (List ℕ) → Type 0
 AreHashes hashes = All IsHash hashes
 
@@ -17,7 +17,7 @@ AreHashes hashes = All IsHash hashes
 abbrev pub hash_line : List ℕ → List ℕ
 hash_line hash = encode_of standard hash ++ 10 ∷ []
 
--- the lines of hashes, one after the other
+-- the lines of hashes, one after another
 abbrev pub hash_lines : List (List ℕ) → List ℕ
 hash_lines hashes = flat_map hash_line hashes
 

@@ -2,7 +2,7 @@
 use Rattle.std.specs.Prelude.{ℕ, Bool, List, [], ◌∷◌, ◌++◌, IsTrue, nat_eq, not}
 use Rattle.std.specs.List.{list_all}
 
--- whether a byte is a line end
+-- the byte is a line end
 abbrev pub is_line_end : ℕ → Bool
 is_line_end b = nat_eq b 10
 

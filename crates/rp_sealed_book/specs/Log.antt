@@ -1,4 +1,4 @@
--- The log of a book: the acts of which its seals speak.
+-- The log of a book: the acts that its seals cover.
 use Rattle.std.specs.Prelude.{ℕ, zero, suc, ◌+◌, List, [], ◌∷◌, length, map, Option, None, slice_get}
 use Rattle.std.specs.List.{slice_range}
 use Rattle.rp_book.specs.Act.{Told}
@@ -10,7 +10,7 @@ use Rattle.rp_seal_text.specs.Checkpoint.{Fields}
 abbrev pub entry_at : ℕ → List ℕ → Told → ActEntry
 entry_at number lines act = record { number = number; first = act.first; last = act.last; added = act.added; who = act.who; deed = act.deed; lines = lines }
 
--- the entries of acts of a script. The first act has a number, and its lines begin at a byte of the script
+-- the entries of the acts of a script; the first act has the given number, and its lines begin at byte `start`
 abbrev pub entries_from : List ℕ → ℕ → ℕ → List Told → List ActEntry
 entries_from script number start [] = []
 entries_from script number start (act ∷ acts) = entry_at number (slice_range script start act.end) act ∷ entries_from script (number + 1) act.end acts

@@ -1,4 +1,4 @@
--- What is put of a book for whoever has no book, and what it shows.
+-- The output of a book for readers without the book, and what it shows.
 use Rattle.std.specs.Prelude.{◌≡◌, ◌-◌, ◌<◌, ◌⊎◌, ℕ, Bool, true, false, List, Option, None, Some, length, map, take}
 use Rattle.std.specs.List.{AllByRecursion}
 use Rattle.rp_io.specs.Bytes.{Appends}
@@ -13,7 +13,7 @@ use Rattle.rp_sealed_book.specs.Log.{checkpoint_of, entry_numbered, log_root}
 use Rattle.rp_sealed_book.specs.declared.verdict.SealVerdict.{SealVerdict}
 use Rattle.rp_sealed_book.specs.declared.verdict.SealVerdict.TheVariants.{Begins}
 
--- if a seal was written, the lines of the checkpoint of a log came to the end of what a sink said; if not, nothing did
+-- if a seal was written, the lines of the checkpoint of a log were appended to the output of a sink; otherwise nothing was
 abbrev pub PutsSeal : List ℕ → List ActEntry → Bool → Option (List ℕ) → Option (List ℕ) → Type 0
 PutsSeal origin log false old new = old ≡ new
 PutsSeal origin log true old new = Appends old new (lines_of (checkpoint_of origin log))
@@ -24,7 +24,7 @@ pub record IsProofOf (log : List ActEntry) (number : ℕ) (p : ActProofFields) :
   pub size : p.size ≡ length log
   pub leads : IsInclusionProof (log_root log) (length log) (number - 1) (leaf_hash (act_bytes p.act)) p.proof
 
--- if a log has an act with a number, the text of a proof of the act came to the end of what a sink said; if not, nothing did
+-- if a log has an act with a number, the text of a proof of the act was appended to the output of a sink; otherwise nothing was
 abbrev pub PutsProof : List ActEntry → ℕ → Bool → Option (List ℕ) → Option (List ℕ) → Type 0
 PutsProof log number false old new = (entry_numbered log number ≡ None) × (old ≡ new)
 PutsProof log number true old new = (p : ActProofFields) × IsProofOf log number p × Appends old new (act_proof_text p)
@@ -35,7 +35,7 @@ pub record IsLinkOf (log : List ActEntry) (size : ℕ) (l : LinkFields) : Type 0
   pub to : l.to ≡ length log
   pub leads : IsConsistencyProof size (log_root (take size log)) (length log) (log_root log) l.proof
 
--- if a log begins with the sealed entries, the text of a link from them to the log came to the end of what a sink said; if not, nothing did
+-- if a log begins with the sealed entries, the text of a link from them to the log was appended to the output of a sink; otherwise nothing was
 abbrev pub PutsLink : List ActEntry → Fields → SealVerdict → Option (List ℕ) → Option (List ℕ) → Type 0
 PutsLink log seal Begins old new = (l : LinkFields) × IsLinkOf log seal.size l × Appends old new (link_text l)
 PutsLink log seal _ old new = old ≡ new

@@ -1,4 +1,4 @@
--- What a comparison of a log with a seal says.
+-- The result of a comparison of a log with a seal.
 use Rattle.std.specs.Prelude.{◌≡◌, ◌≢◌, ◌<◌, ◌≤◌, ◌⊎◌, List, ◌++◌, length, map, take}
 use Rattle.std.specs.List.{AllByRecursion}
 use Rattle.rp_seal.specs.Act.{ActEntry, IsEncodable, act_bytes}
@@ -9,7 +9,7 @@ use Rattle.rp_sealed_book.specs.Log.{log_root}
 use Rattle.rp_sealed_book.specs.declared.verdict.SealVerdict.{SealVerdict}
 use Rattle.rp_sealed_book.specs.declared.verdict.SealVerdict.TheVariants.{Begins, Differs, Shorter}
 
--- what a verdict says of a log and a seal: its first entries, as many as were sealed, have the sealed root hash; or they have another one; or the log has fewer entries
+-- the verdict on a log and a seal: its first entries, as many as are sealed, have the sealed root hash, or have another one; or the log has fewer entries
 abbrev pub IsVerdict : Fields → List ActEntry → SealVerdict → Type 0
 IsVerdict seal log Begins = (seal.size ≤ length log) × (log_root (take seal.size log) ≡ seal.root)
 IsVerdict seal log Differs = (seal.size ≤ length log) × (log_root (take seal.size log) ≢ seal.root)

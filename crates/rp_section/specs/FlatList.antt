@@ -5,7 +5,7 @@ use Rattle.rp_geometry.specs.searches.Certificate.{Multiple}
 use Rattle.rp_geometry.specs.searches.Search.{first_of, first_of_pairs, first_of_triples}
 use Rattle.rp_geometry.specs.sections.Flat.{flat_of_one, flat_of_two, flat_of_three}
 
--- by one half-space of the list, or else by two, or else by three
+-- the first flat certificate: by one half-space of the list; if there is none, by two; if there is none, by three
 abbrev pub flat_in : ℤ → List HalfSpace → Option (List Multiple)
 flat_in z hs =
     elim (first_of (flat_of_one z) hs) [

@@ -1,4 +1,4 @@
--- How lists of parts are joined, subtracted and compared, and the form of an expression, test by test.
+-- The walks that join, subtract and compare lists of parts, and make the form of an expression, test by test.
 use Rattle.std.specs.Prelude.{ℕ, ◌*◌, Bool, true, false, List, [], ◌∷◌, ◌++◌, length, Option, Some, None, nat_le}
 use Rattle.rp_geometry.specs.Geometry.{HalfSpace, complement, box_half_spaces, boxes_meet, closed_boxes_meet}
 use Rattle.rp_geometry.specs.sets.Prism.{Edge, edges_of, is_upright, Prism}
@@ -9,70 +9,70 @@ use Rattle.rp_language.specs.Expression.{Expression, half_space, box, prism, eve
 use Rattle.rp_semantics.specs.Walk.{Walk, pass, stop, limit_met, ◌>>=◌, ◌>>◌, Tester}
 use Rattle.rp_geometry.specs.parts.Parts.{most_parts}
 
--- the part that was made, as a list
+-- the part, if there is one, as a list
 abbrev pub made_part : Option Part → List Part
 made_part None = []
 made_part (Some p) = p ∷ []
 
--- the list, if it has at most so many parts
+-- the list, if it has at most the given number of parts; otherwise a stop at the limit
 abbrev pub if_at_most : {W : Type 0} → ℕ → List Part → Walk W (List Part)
 if_at_most most parts = elim (nat_le (length parts) most) [ true ↦ pass parts | false ↦ stop limit_met ]
 
--- every pair is tested
+-- the choice of every pair of parts
 abbrev pub every_pair : Part → Part → Bool
 every_pair p q = true
 
--- the boxes of the two parts meet
+-- the choice of pairs of parts whose boxes share more than boundary
 abbrev pub near_pair : Part → Part → Bool
 near_pair p q = boxes_meet p.bounds q.bounds
 
--- the boxes of the two parts meet, their boundaries included
+-- the choice of pairs of parts whose boxes share a point, their boundaries included
 abbrev pub touching_pair : Part → Part → Bool
 touching_pair p q = closed_boxes_meet p.bounds q.bounds
 
--- ---- pair loops: whether two lists of parts have a common point
+-- ---- pair loops: tests of pairs of parts, up to the first that passes
 
--- a test of two parts, where the pair is to be tested at all
+-- the test of two parts, if the pair is chosen; otherwise no
 abbrev pub test_pair_if : {W : Type 0} → Bool → (List HalfSpace → Walk W Bool) → Part → Part → Walk W Bool
 test_pair_if true test p q = test (p.cell ++ q.cell)
 test_pair_if false test p q = pass false
 
--- the pairs of one part with each part of a list that are to be tested, up to the first that is found
+-- tests one part with each part of a list, if the pair is chosen, up to the first pair that passes
 abbrev pub first_with_part : {W : Type 0} → (Part → Part → Bool) → (List HalfSpace → Walk W Bool) → Part → List Part → Walk W Bool
 first_with_part chosen test p [] = pass false
 first_with_part chosen test p (q ∷ qs) = do
   found ← test_pair_if (chosen p q) test p q
   elim found [ true ↦ pass true | false ↦ first_with_part chosen test p qs ]
 
--- the pairs of each part of a list with each part of a second list, up to the first that is found
+-- tests each part of a list with each part of a second list, if the pair is chosen, up to the first pair that passes
 abbrev pub first_pair : {W : Type 0} → (Part → Part → Bool) → (List HalfSpace → Walk W Bool) → List Part → List Part → Walk W Bool
 first_pair chosen test [] qs = pass false
 first_pair chosen test (p ∷ ps) qs = do
   found ← first_with_part chosen test p qs
   elim found [ true ↦ pass true | false ↦ first_pair chosen test ps qs ]
 
--- the parts that a name stands for, and none where there are none
+-- the parts, and the empty list if there are none
 abbrev pub parts_or_none : Option (List Part) → List Part
 parts_or_none None = []
 parts_or_none (Some ps) = ps
 
 module _ {W : Type 0} (tester : Tester W) where
-  -- ---- join: what two lists of parts have in common
+  -- ---- join: the common members of two lists of parts
 
-  -- the part that two parts have in common, behind those made already
+  -- appends the common part of two parts, if it has a member, to the parts made so far
   abbrev pub join_pair : List Part → Part → Part → Walk W (List Part)
   join_pair made p q = do
     o ← tester.part (p.cell ++ q.cell)
     if_at_most most_parts (made ++ made_part o)
 
-  -- one part with each part of a list; the first list is made already
+  -- appends the common parts of one part with each part of a list to the parts made so far, the first list
   abbrev pub join_with_part : List Part → Part → List Part → Walk W (List Part)
   join_with_part made p [] = pass made
   join_with_part made p (q ∷ qs) = do
     longer ← join_pair made p q
     join_with_part longer p qs
 
-  -- the join of each part of a list with a second list
+  -- appends the common parts of each part of a list with each part of a second list to the parts made so far, the first list
   abbrev pub join_each : List Part → List Part → List Part → Walk W (List Part)
   join_each made [] qs = pass made
   join_each made (p ∷ ps) qs = do
@@ -85,28 +85,28 @@ module _ {W : Type 0} (tester : Tester W) where
     tester.count (length ps * length qs)
     join_each [] ps qs
 
-  -- ---- difference: what is left of a list of parts outside a second one
+  -- ---- difference: the members of a list of parts that are in no part of a second list
 
-  -- what is left of a cell outside one half-space, inside those before; the first list is made already
+  -- appends the piece of a cell outside one half-space and inside those before to the parts made so far, the first list
   abbrev pub carve_one : List Part → List HalfSpace → List HalfSpace → HalfSpace → Walk W (List Part)
   carve_one made cell before h = do
     tester.count 1
     o ← tester.part (cell ++ before ++ complement h ∷ [])
     pass (made ++ made_part o)
 
-  -- what is left of a cell outside the half-spaces still to come, one after the other, inside those before
+  -- appends the pieces of a cell outside the half-spaces, each outside one and inside those before, to the parts made so far
   abbrev pub carve : List Part → List HalfSpace → List HalfSpace → List HalfSpace → Walk W (List Part)
   carve made cell before [] = pass made
   carve made cell before (h ∷ hs) = do
     longer ← carve_one made cell before h
     carve longer cell (before ++ h ∷ []) hs
 
-  -- a part is carved where it has a member in the other part, and stays otherwise
+  -- appends the pieces of a part outside another if they have a common member, otherwise the part itself
   abbrev pub carve_or_keep : Bool → List Part → Part → Part → Walk W (List Part)
   carve_or_keep true made c q = carve made c.cell [] q.cell
   carve_or_keep false made c q = pass (made ++ c ∷ [])
 
-  -- what is left of one part outside another: it stays where the boxes do not meet
+  -- appends the rest of one part outside another; if their boxes do not meet, it is the part itself, without a test
   abbrev pub subtract_pair : List Part → Part → Part → Walk W (List Part)
   subtract_pair made c q = elim (boxes_meet c.bounds q.bounds) [
     | false ↦ pass (made ++ c ∷ [])
@@ -116,14 +116,14 @@ module _ {W : Type 0} (tester : Tester W) where
       carve_or_keep found made c q
   ]
 
-  -- the parts without one part; the first list is made already
+  -- appends the rests of parts outside one part to the parts made so far, the first list
   abbrev pub subtract_part : List Part → List Part → Part → Walk W (List Part)
   subtract_part made [] q = pass made
   subtract_part made (c ∷ cs) q = do
     longer ← subtract_pair made c q
     subtract_part longer cs q
 
-  -- the difference: the parts of a list without those of a second list, one after the other
+  -- the difference: from the first list each part of the second is subtracted in turn
   abbrev pub subtract : List Part → List Part → Walk W (List Part)
   subtract current [] = pass current
   subtract current (q ∷ qs) = do
@@ -137,7 +137,7 @@ module _ {W : Type 0} (tester : Tester W) where
     tester.count (length ps * length qs)
     first_pair every_pair tester.strict ps qs
 
-  -- whether two lists share a member, by the pairs whose boxes meet alone; nothing is counted
+  -- whether two lists share a member, by the pairs whose boxes share more than boundary; no test is counted
   abbrev pub common_nearby : List Part → List Part → Walk W Bool
   common_nearby ps qs = first_pair near_pair tester.strict ps qs
 
@@ -147,58 +147,58 @@ module _ {W : Type 0} (tester : Tester W) where
     tester.count (length ps * length qs)
     first_pair every_pair tester.weak ps qs
 
-  -- whether two lists are in contact, by the pairs whose closed boxes meet alone; nothing is counted
+  -- whether two lists are in contact, by the pairs whose boxes share a point, boundaries included; no test is counted
   abbrev pub touch_nearby : List Part → List Part → Walk W Bool
   touch_nearby ps qs = first_pair touching_pair tester.weak ps qs
 
   -- ---- the parts of a single cell
 
-  -- the part of a cell, as a list
+  -- the part of a cell, if it has a member, as a list
   abbrev pub parts_of_cell : List HalfSpace → Walk W (List Part)
   parts_of_cell cell = do
     o ← tester.part cell
     pass (made_part o)
 
-  -- the complement: what is left of the whole cube
+  -- the complement: the rest of the whole cube outside the list
   abbrev pub subtract_from_whole : List Part → Walk W (List Part)
   subtract_from_whole ps = subtract (whole_part ∷ []) ps
 
   -- ---- the form of a prism
 
-  -- the parts in one of two lists and not in the other: what is left of the first outside the second, and then what is left of the second outside the first
+  -- the symmetric difference of two lists: the rest of the first outside the second, and then of the second outside the first
   abbrev pub exchange_lists : List Part → List Part → Walk W (List Part)
   exchange_lists current made = do
     outside ← subtract current made
     added ← subtract made current
     if_at_most most_parts (outside ++ added)
 
-  -- a new part, if there is one, is exchanged with the parts so far
+  -- exchanges a new part, if there is one, with the parts so far
   abbrev pub exchange : List Part → Option Part → Walk W (List Part)
   exchange current None = pass current
   exchange current (Some made) = exchange_lists current (made ∷ [])
 
-  -- the part of a cell is exchanged with the parts so far; where there is no cell they stay
+  -- exchanges the part of a cell, if there is a cell, with the parts so far
   abbrev pub exchange_cell : List Part → Option (List HalfSpace) → Walk W (List Part)
   exchange_cell current None = pass current
   exchange_cell current (Some cell) = do
     made ← tester.part cell
     exchange current made
 
-  -- the trapezoid of an edge is exchanged with the parts so far; an edge whose ends have one x is passed over
+  -- exchanges the trapezoid of an edge with the parts so far; an edge whose ends have equal x is left out
   abbrev pub exchange_edge : Prism → Bool → List Part → Edge → Walk W (List Part)
   exchange_edge s true current e = pass current
   exchange_edge s false current e = do
     made ← tester.part (trapezoid s e)
     exchange current made
 
-  -- the same of edges in order
+  -- exchanges the trapezoids of edges, in order, with the parts so far
   abbrev pub exchange_edges : Prism → List Part → List Edge → Walk W (List Part)
   exchange_edges s current [] = pass current
   exchange_edges s current (e ∷ es) = do
     next ← exchange_edge s (is_upright e) current e
     exchange_edges s next es
 
-  -- the form of a prism: the trapezoids of its edges, exchanged one after the other
+  -- the form of a prism: the trapezoids of its edges, exchanged one after another
   abbrev pub prism_form : Prism → Walk W (List Part)
   prism_form s = exchange_edges s [] (edges_of s.corners)
 

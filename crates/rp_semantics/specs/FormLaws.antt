@@ -1,4 +1,4 @@
--- The laws over tests and forms, as statements. They are said of any tester that answers rightly.
+-- The laws over tests and forms, as statements about any tester that answers rightly.
 use Rattle.std.specs.Prelude.{◌↔◌, IsTrue, false, ℤ, List, Option, Some, None, IfSome}
 use Rattle.std.specs.List.{AllZip}
 use Rattle.rp_geometry.specs.Geometry.{RationalPoint, HalfSpace}
@@ -22,21 +22,21 @@ use Rattle.rp_geometry.specs.parts.Parts.{AreKeptHalfSpaces, IsPart, IsCheckedPa
 
 -- ---- testers
 
--- the fact holds of what a walk comes to, where it is not stopped
+-- the property holds of the result of a walk that is not stopped
 abbrev pub IfDone : {W A : Type 0} → Outcome W A → (A → Type 0) → Type 0
 IfDone (done x w) P = P x
 IfDone (stopped e w) P = Unit {0}
 
--- the part that was made of a cell, if there is one, keeps the fact and has the members of the cell
+-- the part made of a cell, if there is one, has the property P and the members of the cell; without one the cell has no member
 pub record IsMadeOf (P : Part → Type 0) (cell : List HalfSpace) (o : Option Part) : Type 0 where
   pub fact : IfSome o P
   pub members : SameMembers (shape_of_parts (made_part o)) (shape_of_cell cell)
 
--- the slices pass at the height, each for its part
+-- each slice passes at the height for its part
 abbrev pub ArePassingSlices : ℤ → List Part → List Slice → Type 0
 ArePassingSlices z ps shown = AllZip (λ p s. IsTrue (is_slice z p.cell s)) ps shown
 
--- the tester answers rightly, and its parts keep the fact; so does the whole cube, which is a part without a test
+-- the tester answers rightly, and its parts and the whole cube have the property P
 pub record AnswersRightly {W : Type 0} (P : Part → Type 0) (t : Tester W) : Type 0 where
   pub whole : P whole_part
   pub checked : (p : Part) → P p → IsCheckedPart p
@@ -56,51 +56,51 @@ abbrev pub JoinIsRight : {W : Type 0} → (Part → Type 0) → Tester W → Typ
 JoinIsRight {W = W} P t = (ps qs : List Part) → AreParts P ps → AreParts P qs → (w : W) →
     IfDone (join t ps qs w) (λ made. AreOf P (Shape.intersection (shape_of_parts ps) (shape_of_parts qs)) made)
 
--- the difference has exactly the members of the first list that are none of the second
+-- the difference has exactly the members of the first list that are not in the second
 abbrev pub DifferenceIsRight : {W : Type 0} → (Part → Type 0) → Tester W → Type 0
 DifferenceIsRight {W = W} P t = (ps qs : List Part) → AreParts P ps → AreParts P qs → (w : W) →
     IfDone (subtract t ps qs w) (λ made. AreOf P (Shape.difference (shape_of_parts ps) (shape_of_parts qs)) made)
 
--- the strict pair loop finds exactly where the two lists have a common member, over all pairs and over those whose boxes meet
+-- the strict pair loop finds a pair iff the two lists have a common member: over all pairs, and over those whose boxes meet
 abbrev pub CommonIsRight : {W : Type 0} → (Part → Type 0) → Tester W → Type 0
 CommonIsRight {W = W} P t = (ps qs : List Part) → AreParts P ps → AreParts P qs → (w : W) →
     IfDone (common_in_full t ps qs w) (λ found. IsTrue found ↔ Overlaps (shape_of_parts ps) (shape_of_parts qs))
     × IfDone (common_nearby t ps qs w) (λ found. IsTrue found ↔ Overlaps (shape_of_parts ps) (shape_of_parts qs))
 
--- the weak pair loop finds exactly where the two lists are in contact, over all pairs and over those whose closed boxes meet
+-- the weak pair loop finds a pair iff the two lists are in contact: over all pairs, and over those whose closed boxes meet
 abbrev pub TouchIsRight : {W : Type 0} → (Part → Type 0) → Tester W → Type 0
 TouchIsRight {W = W} P t = (ps qs : List Part) → AreParts P ps → AreParts P qs → (w : W) →
     IfDone (touch_in_full t ps qs w) (λ found. IsTrue found ↔ IsInContact (shape_of_parts ps) (shape_of_parts qs))
     × IfDone (touch_nearby t ps qs w) (λ found. IsTrue found ↔ IsInContact (shape_of_parts ps) (shape_of_parts qs))
 
--- the difference without parts and the test of its first part tell whether the first list is within the second
+-- the walk that subtracts the second list from the first says yes iff the first is within the second
 abbrev pub CoverIsRight : {W : Type 0} → (Part → Type 0) → Tester W → Type 0
 CoverIsRight {W = W} P t = (ps qs : List Part) → AreParts P ps → AreParts P qs → (w : W) →
     IfDone (is_covered t ps qs w) (λ within. IsTrue within ↔ IsWithin (shape_of_parts ps) (shape_of_parts qs))
 
--- the relation that is found is that of the two lists
+-- the relation found is that of the two lists
 abbrev pub RelationIsRight : {W : Type 0} → (Part → Type 0) → Tester W → Type 0
 RelationIsRight {W = W} P t = (ps qs : List Part) → AreParts P ps → AreParts P qs → IsNonempty (shape_of_parts ps) → IsNonempty (shape_of_parts qs) → (w : W) →
     IfDone (relation_of_parts t ps qs w) (λ r. StandIn r (shape_of_parts ps) (shape_of_parts qs))
 
--- the pieces that are found are those of the list
+-- the pieces found are those of the list
 abbrev pub PiecesAreRight : {W : Type 0} → (Part → Type 0) → Tester W → Type 0
 PiecesAreRight {W = W} P t = (ps : List Part) → AreParts P ps → (w : W) → IfDone (pieces_of_parts t ps w) (λ gs. ArePieces ps gs)
 
 -- ---- forms
 
--- the form of a prism has exactly its members
+-- the form of a prism has exactly the members of the prism
 abbrev pub PrismIsRight : {W : Type 0} → (Part → Type 0) → Tester W → Type 0
 PrismIsRight {W = W} P t = (s : Prism) → IsPrism s → (w : W) → IfDone (prism_form t s w) (λ made. AreOf P (Shape.prism s) made)
 
--- two meanings know the same labels; the parts that the first one gives keep the fact and have the members of the set that the second one gives
+-- a label has both meanings or none; the parts of the first have the property P, and exactly the members of the set of the second
 abbrev pub Agree : (Part → Type 0) → Option (List Part) → Option Shape → Type 0
 Agree P None None = Unit {0}
 Agree P (Some parts) (Some s) = AreOf P s parts
 Agree P None (Some s) = ⊥
 Agree P (Some parts) None = ⊥
 
--- what names stand for in parts and in sets agrees, and so does what lots stand for
+-- the meanings in parts and in sets agree for each name and each lot
 pub record MeaningsAgree (P : Part → Type 0) (parts : Meaning (List Part)) (sets : Meaning Shape) : Type 0 where
   pub names : (x : Label) → Agree P (parts.of_name x) (sets.of_name x)
   pub lots : (x : Label) → Agree P (parts.of_lot x) (sets.of_lot x)
@@ -110,9 +110,9 @@ abbrev pub FormIsRight : {W : Type 0} → (Part → Type 0) → Tester W → Typ
 FormIsRight {W = W} P t = (parts : Meaning (List Part)) (sets : Meaning Shape) → MeaningsAgree P parts sets → (e : Expression) → IsKeptExpression e → (w : W) →
     IfDone (form t parts e w) (λ made. AreOf P (resolve_names sets e) made)
 
--- ---- all of them
+-- ---- all laws together
 
--- the tester answers rightly, and so do the walks over lists of parts and expressions that are made of its tests
+-- the tester answers rightly, and all walks over lists of parts and expressions that use it are right
 pub record WalksAreRight {W : Type 0} (P : Part → Type 0) (t : Tester W) : Type 0 where
   pub tests : AnswersRightly P t
   pub joins : JoinIsRight P t

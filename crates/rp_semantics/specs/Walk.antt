@@ -1,4 +1,4 @@
--- A walk makes tests one after the other, and may be stopped. How a test is answered is left to a tester: the program searches for the first certificate, and the check reads a line.
+-- A walk makes tests one after another, and may be stopped. A tester answers the tests: the program searches for the first certificate, and the check reads a line.
 use Rattle.std.specs.Prelude.{ℕ, ◌+◌, Bool, true, false, ℤ, List, [], ◌∷◌, ◌++◌, map, length, Option, Some, None, nat_le}
 use Rattle.rp_geometry.specs.Geometry.{HalfSpace}
 use Rattle.rp_geometry.specs.sets.Shape.{Part}
@@ -7,42 +7,42 @@ use Rattle.rp_geometry.specs.parts.PartTest.{has_member, has_weak_point, slimmed
 use Rattle.rp_geometry.specs.parts.Parts.{most_half_spaces}
 use Rattle.rp_geometry.specs.sections.Slice.{Slice, slice_of}
 
--- why a walk stops: a limit is met, the report says so, the next line does not fit, or the line taken last does not
+-- the reason why a walk stops: a limit is met, the report has a limit line, the next line does not fit, or the line taken last does not
 pub data Stop : Type 0 where
   limit_met limit_told line_wrong taken_wrong : Stop
 
--- what a walk comes to: a result, or a stop; and the work as it is then
+-- the outcome of a walk: a result or a stop, and the work at its end
 pub data Outcome (W A : Type 0) : Type 0 where
   done : A → W → Outcome W A
   stopped : Stop → W → Outcome W A
 
--- a walk that begins with some work
+-- a walk: from the work so far to an outcome
 abbrev pub Walk : Type 0 → Type 0 → Type 0
 Walk W A = W → Outcome W A
 
--- a walk that makes no test
+-- the walk that makes no test and has the result x
 abbrev pub pass : {W A : Type 0} → A → Walk W A
 pass x w = done x w
 
--- a walk that is stopped
+-- the walk that stops at once
 abbrev pub stop : {W A : Type 0} → Stop → Walk W A
 stop s w = stopped s w
 
 infixl 10 ◌>>=◌ ◌>>◌
--- what a walk comes to, and then the next walk from there; a stop is the end
+-- the outcome of the next walk after a first outcome; a stop stays
 abbrev pub after_first : {W A B : Type 0} → (A → Walk W B) → Outcome W A → Outcome W B
 after_first next (done x w) = next x w
 after_first next (stopped s w) = stopped s w
 
--- one walk and then the next, which may use the first result
+-- one walk and then the next, which depends on the first result
 abbrev pub ◌>>=◌ : {W A B : Type 0} → Walk W A → (A → Walk W B) → Walk W B
 (first >>= next) w = after_first next (first w)
 
--- one walk and then the next
+-- one walk and then the next, without the first result
 abbrev pub ◌>>◌ : {W A B : Type 0} → Walk W A → Walk W B → Walk W B
 (first >> next) w = after_first (λ _. next) (first w)
 
--- how tests are counted and answered, and which slices are shown of parts at a height
+-- a tester: how tests are counted and answered, and which slices the parts have at a height
 pub record Tester (W : Type 0) : Type 0 where
   pub count : ℕ → Walk W (Unit {0})
   pub strict : List HalfSpace → Walk W Bool
@@ -50,7 +50,7 @@ pub record Tester (W : Type 0) : Type 0 where
   pub part : List HalfSpace → Walk W (Option Part)
   pub slices : ℤ → List Part → Walk W (List Slice)
 
--- the most tests that are counted in a command
+-- the most tests that a command may count
 abbrev pub most_tests : ℕ
 most_tests = 65536
 
@@ -61,7 +61,7 @@ pub record Work : Type 0 where
   pub tests : ℕ
   pub proofs : List ProofLine
 
--- nothing done yet
+-- no test counted and no proof line
 abbrev pub no_work : Work
 no_work = record { tests = 0; proofs = [] }
 
@@ -69,19 +69,19 @@ no_work = record { tests = 0; proofs = [] }
 abbrev pub with_lines : Work → List ProofLine → Work
 with_lines w lines = record { tests = w.tests; proofs = w.proofs ++ lines }
 
--- n more tests are counted, up to the limit
+-- counts n more tests; a stop at the limit if there would be more than 65,536
 abbrev pub count_tests : ℕ → Walk Work (Unit {0})
 count_tests n w = elim (nat_le (w.tests + n) most_tests) [ true ↦ done tt (record { tests = w.tests + n; proofs = w.proofs }) | false ↦ stopped limit_met w ]
 
--- a strict test, with its line
+-- a strict test, with its proof line
 unfoldable pub strict_test : List HalfSpace → Walk Work Bool
 strict_test cell w = done (has_member cell) (with_lines w (strict_line cell ∷ []))
 
--- a weak test, with its line
+-- a weak test, with its proof line
 unfoldable pub weak_test : List HalfSpace → Walk Work Bool
 weak_test cell w = done (has_weak_point cell) (with_lines w (weak_line cell ∷ []))
 
--- a part test, with its lines: a strict test, and where the cell has a member the part of its slim cell, if this has few half-spaces
+-- a part test, with its proof lines: a strict test; if the cell has a member, the part of its slim cell, with at most 32 half-spaces
 unfoldable pub part_test : List HalfSpace → Walk Work (Option Part)
 part_test cell w =
     elim (has_member cell) [
@@ -96,6 +96,6 @@ part_test cell w =
 unfoldable pub slices_found : ℤ → List Part → Walk Work (List Slice)
 slices_found z ps w = done (map (λ p. slice_of z p.cell) ps) w
 
--- tests answered by the first certificates
+-- the tester that answers by the first certificates
 abbrev pub first_tester : Tester Work
 first_tester = record { count = count_tests; strict = strict_test; weak = weak_test; part = part_test; slices = slices_found }

@@ -4,7 +4,7 @@ use Rattle.rp_algebra.specs.Within.{IsWithin}
 use Rattle.rp_geometry.specs.searches.Vertex.{det2}
 use Rattle.rp_space.specs.declared.meeting.Pair.TheInside.{Inside}
 
--- the kept minors are those of the two half-spaces, and their sizes keep the bounds that follow
+-- the stored minors are those of the two half-spaces, and their sizes are within the bounds that follow
 pub record HasMinors (p : Inside) : Type 0 where
   pub ab : p.ab ≡ det2 p.first.a p.first.b p.second.a p.second.b
   pub ac : p.ac ≡ det2 p.first.a p.first.c p.second.a p.second.c

@@ -1,4 +1,4 @@
--- Sets of places as the bits of a number.
+-- Sets of places as bits of a number.
 use Rattle.std.specs.Prelude.{◌≡◌, ℕ, ◌+◌, ◌*◌, ◌<◌, ◌≤◌, Bool, cond, List, [], ◌∷◌}
 use Rattle.std.specs.Int.{bit_at}
 
@@ -11,7 +11,7 @@ bits_of test (x ∷ xs) = 2 * bits_of test xs + cond (test x) 1 0
 abbrev pub IsIn : ℕ → ℕ → Type 0
 IsIn set place = bit_at set place ≡ 1
 
--- the lowest place of a set from a place on
+-- the place is the lowest of the set, from a place on
 pub record IsLowestFrom (set from place : ℕ) : Type 0 where
   pub from_on : from ≤ place
   pub below : place < 128
@@ -22,6 +22,6 @@ pub record IsLowestFrom (set from place : ℕ) : Type 0 where
 abbrev pub HasNoneFrom : ℕ → ℕ → Type 0
 HasNoneFrom set from = (i : ℕ) → from ≤ i → bit_at set i ≡ 0
 
--- the set has no two places
+-- the set has at most one place
 abbrev pub HasNoTwo : ℕ → Type 0
 HasNoTwo set = (i j : ℕ) → i < j → IsIn set i → IsIn set j → ⊥

@@ -1,4 +1,4 @@
--- Numbers as short as those of half-spaces.
+-- Numbers within the bounds of minors of half-spaces.
 use Rattle.std.specs.Prelude.{ℤ, ◌^◌}
 use Rattle.rp_algebra.specs.Within.{IsWithin}
 

@@ -6,6 +6,6 @@ pub record TwoHalfSpaces : Type 0 where
   pub first : HalfSpace
   pub second : HalfSpace
 
--- the two half-spaces of these values
+-- the two half-spaces as one value
 abbrev pub two_of : HalfSpace → HalfSpace → TwoHalfSpaces
 two_of f g = record { first = f; second = g }

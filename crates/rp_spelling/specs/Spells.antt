@@ -1,4 +1,4 @@
--- What a call that writes words has written.
+-- The contracts of calls that write words.
 use Rattle.std.specs.Prelude.{ℕ, ℤ, pos, negsuc, List, [], ◌∷◌, Result}
 use Rattle.std.specs.List.{flat_map}
 use Rattle.std.specs.declared.alloc.AllocError.{AllocError}
@@ -6,15 +6,15 @@ use Rattle.rp_language.specs.Expression.{Child}
 use Rattle.rp_language.specs.Grammar.{Word, space, minus_sign, Version, expression_words}
 use Rattle.rp_command.specs.Fronts.{Appends}
 
--- words that follow others, each behind a space
+-- words, each after a space
 abbrev pub behind_spaces : List Word → List ℕ
 behind_spaces words = flat_map (λ word. space ∷ word) words
 
--- the words were appended, each behind a space, or a front of them where memory ran out
+-- the words were appended, each after a space, or a prefix of them if memory ran out
 abbrev pub Spells : Result (Unit {0}) AllocError → List ℕ → List ℕ → List Word → Type 0
 Spells r old new words = Appends r old new (behind_spaces words)
 
--- what stands before the size of a number: a space, and a minus sign where the number is below 0
+-- the text before the size of a number: a space, and a minus sign if the number is below 0
 abbrev pub before_size : ℤ → List ℕ
 before_size (pos n) = space ∷ []
 before_size (negsuc n) = space ∷ minus_sign ∷ []

@@ -1,7 +1,7 @@
 #![tactic(auto)]
 //! The one spelling of a command: [`write_command`] appends it in a version, for every command.
 //!
-//! Calls that answer `AllocError` do so only for want of memory.
+//! A call returns `AllocError` only if memory runs out.
 
 mod spelling;
 

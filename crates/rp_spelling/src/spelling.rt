@@ -16,7 +16,7 @@ use rp_lists::{Name, Names};
 use rp_space::{Corner, Corners, Half, IntBox, Point};
 use std::alloc::AllocError;
 
-/// Appends a word behind a space.
+/// Appends a space and `word`.
 fn write_word(word: &[u8], out: &mut Vec<u8>) -> Result<(), AllocError>
     ensures { Spells result out.old.items out.new.items (word.now ∷ []) }
 {
@@ -24,7 +24,7 @@ fn write_word(word: &[u8], out: &mut Vec<u8>) -> Result<(), AllocError>
     out.extend_from_slice(word)
 }
 
-/// Appends two words, each behind a space.
+/// Appends two words, each after a space.
 fn write_words(first: &[u8], second: &[u8], out: &mut Vec<u8>) -> Result<(), AllocError>
     ensures { Spells result out.old.items out.new.items (first.now ∷ second.now ∷ []) }
 {
@@ -32,7 +32,7 @@ fn write_words(first: &[u8], second: &[u8], out: &mut Vec<u8>) -> Result<(), All
     write_word(second, out)
 }
 
-/// Appends numbers, each behind a space.
+/// Appends numbers, each after a space.
 fn write_numbers<I: Integer>(numbers: &[I], out: &mut Vec<u8>) -> Result<(), AllocError>
     ensures { Spells result out.old.items out.new.items (map I.text numbers.now) }
 {
@@ -43,7 +43,7 @@ fn write_numbers<I: Integer>(numbers: &[I], out: &mut Vec<u8>) -> Result<(), All
     Ok(())
 }
 
-/// The byte of a digit.
+/// Returns the byte of a digit.
 fn digit(n: u128) -> u8
     requires { n < 10 }
     ensures { result ≡ 48 + n }
@@ -62,14 +62,14 @@ fn write_thousandths(n: u128, out: &mut Vec<u8>) -> Result<(), AllocError>
     out.extend_from_slice(&[b'.', digits[0], digits[1], digits[2]])
 }
 
-/// A space, and a minus sign behind it for a number below 0.
+/// Returns a space, followed by a minus sign if `v` is below 0.
 fn before_size(v: i128) -> &'static [u8]
     ensures { result.now ≡ before_size v }
 {
     if v < 0 { b" -" } else { b" " }
 }
 
-/// Appends a whole number of thousandths as a decimal, behind a space.
+/// Appends a space and `v`, a number of thousandths, as a decimal.
 fn write_decimal(v: i128, out: &mut Vec<u8>) -> Result<(), AllocError>
     ensures { Spells result out.old.items out.new.items (coordinate_text two v ∷ []) }
 {
@@ -77,7 +77,7 @@ fn write_decimal(v: i128, out: &mut Vec<u8>) -> Result<(), AllocError>
     write_thousandths(v.unsigned_abs(), out)
 }
 
-/// Appends a coordinate behind a space.
+/// Appends a space and a coordinate.
 fn write_coordinate(version: Version, v: i128, out: &mut Vec<u8>) -> Result<(), AllocError>
     ensures { Spells result out.old.items out.new.items (coordinate_text (version_of version) v ∷ []) }
 {
@@ -87,7 +87,7 @@ fn write_coordinate(version: Version, v: i128, out: &mut Vec<u8>) -> Result<(), 
     }
 }
 
-/// Appends coordinates, each behind a space.
+/// Appends coordinates, each after a space.
 fn write_coordinates(
     version: Version,
     numbers: &[i128],
@@ -180,7 +180,7 @@ fn write_polygon(version: Version, corners: &Corners, out: &mut Vec<u8>) -> Resu
     write_corners(version, corners, out)
 }
 
-/// The word that begins an expression.
+/// Returns the word that begins an expression.
 fn node_word(region: &Expr) -> &'static [u8]
     ensures { (v : Versions) → expression_words v (expression_of region.now) ≡ result.now ∷ drop 1 (expression_words v (expression_of region.now)) }
 {
@@ -247,7 +247,7 @@ fn write_named(
     write_expression(version, region, out)
 }
 
-/// Appends what follows the word `let`.
+/// Appends the operands of `let`.
 fn write_definition(
     version: Version,
     name: &Name,
@@ -260,7 +260,7 @@ fn write_definition(
     write_expression(version, region, out)
 }
 
-/// Appends what follows the word `member`.
+/// Appends the operands of `member`.
 fn write_member(
     version: Version,
     region: &Expr,
@@ -301,7 +301,7 @@ fn write_counted(name: &Name, count: usize, out: &mut Vec<u8>) -> Result<(), All
     write_numbers(&[count], out)
 }
 
-/// Appends what follows the word `subdivide`.
+/// Appends the operands of `subdivide`.
 fn write_subdivision(
     version: Version,
     lot: &Name,
@@ -314,7 +314,7 @@ fn write_subdivision(
     write_children(version, children, out)
 }
 
-/// Appends what follows the word `consolidate`.
+/// Appends the operands of `consolidate`.
 fn write_consolidation(new: &Name, lots: &Names, out: &mut Vec<u8>) -> Result<(), AllocError>
     ensures { Spells result out.old.items out.new.items (new.now ∷ decimal (length lots.now.items) ∷ lots.now.items) }
 {
@@ -322,7 +322,7 @@ fn write_consolidation(new: &Name, lots: &Names, out: &mut Vec<u8>) -> Result<()
     write_names(lots, out)
 }
 
-/// Appends what follows the word `asof`.
+/// Appends the operands of `asof`.
 fn write_as_of(
     version: Version,
     line: u32,
@@ -335,7 +335,7 @@ fn write_as_of(
     write_point(version, point, out)
 }
 
-/// Appends what follows the word `section`.
+/// Appends the operands of `section`.
 fn write_section(
     version: Version,
     region: &Expr,
@@ -348,7 +348,7 @@ fn write_section(
     write_coordinate(version, z as i128, out)
 }
 
-/// Appends what follows the word `cut`.
+/// Appends the operands of `cut`.
 fn write_cut(
     version: Version,
     lot: &Name,
@@ -363,7 +363,7 @@ fn write_cut(
     write_words(first.bytes(), second.bytes(), out)
 }
 
-/// The word that begins a command.
+/// Returns the word that begins a command.
 fn verb_word(c: &Command) -> &'static [u8]
     ensures { (v : Versions) → words_of_command v (command_of c.now) ≡ result.now ∷ drop 1 (words_of_command v (command_of c.now)) }
 {
@@ -395,7 +395,7 @@ fn verb_word(c: &Command) -> &'static [u8]
     }
 }
 
-/// Appends what follows the word of a command.
+/// Appends the operands of a command.
 fn write_operands(version: Version, c: &Command, out: &mut Vec<u8>) -> Result<(), AllocError>
     ensures { Spells result out.old.items out.new.items (drop 1 (words_of_command (version_of version) (command_of c.now))) }
 {
@@ -429,7 +429,7 @@ fn write_operands(version: Version, c: &Command, out: &mut Vec<u8>) -> Result<()
 }
 
 /// Appends to `out` the one spelling of the command `c` in `version`: its words with one space between, half-spaces and
-/// points in lowest terms. After `AllocError` `out` has what it had and a front of the spelling.
+/// points in lowest terms. After `AllocError` `out` has what it had and a prefix of the spelling.
 #[tactic(auto, unfolding(rp_language::specs::Grammar::spelling))]
 pub fn write_command(version: Version, c: &Command, out: &mut Vec<u8>) -> Result<(), AllocError>
     ensures ok { OnOk result (out.new.items ≡ out.old.items ++ spelling (version_of version) (command_of c.now)) }

@@ -1,4 +1,4 @@
--- Names and lots as they are kept, with lists of parts.
+-- Names and lots as they are stored, with lists of parts.
 use Rattle.std.specs.Prelude.{◌≡◌, ℕ, ◌+◌, ◌≤◌, Bool, false, IsTrue, List, map, length, Some, None, slice_get}
 use Rattle.rp_geometry.specs.Geometry.{RationalPoint}
 use Rattle.rp_geometry.specs.sets.Shape.{Part}
@@ -12,13 +12,13 @@ use Rattle.rp_lotindex.specs.Indexed.{IsIndexOf}
 
 -- ---- names
 
--- few names with few parts, which are counted
+-- the names and the number of parts are within their limits, and the parts are counted
 pub record AreNamed (parts : ℕ) (ks : List (Kept (Unit {0}))) : Type 0 where
   pub few_names : length ks ≤ most_names
   pub few_parts : parts_under_names ks ≤ most_kept_parts
   pub count : parts ≡ parts_under_names ks
 
--- the name is new, and there is room for it and for the parts
+-- the name is new, and there is room for it and its parts
 pub record IsNewName (ks : List (Kept (Unit {0}))) (x : Label) (ps : List Part) : Type 0 where
   pub fresh : is_among x (names_of ks) ≡ false
   pub few_names : length ks + 1 ≤ most_names
@@ -26,12 +26,12 @@ pub record IsNewName (ks : List (Kept (Unit {0}))) (x : Label) (ps : List Part) 
 
 -- ---- lots
 
--- few lots with few parts together
+-- the lots and the number of all their parts are within their limits
 pub record AreFew (lots : List (Lot (Unit {0}))) : Type 0 where
   pub few_lots : length lots ≤ most_kept_parts
   pub few_parts : parts_under_lots lots ≤ most_kept_parts
 
--- a history and lists of parts make few lots with distinct ids, whose parts are counted, and whose boxes are in the indexes of their layers
+-- the history and the lists of parts make lots within their limits, with distinct ids, counted parts, and boxes in the indexes of their layers
 pub record AreLots (history : List (Lot (Unit {0}))) (lists : List (List Part)) (parts : ℕ) (index : Label → Boxes) : Type 0 where
   pub each : length history ≡ length lists
   pub bare : map bare_lot history ≡ history
@@ -46,6 +46,6 @@ has_point lists p k = elim (slice_get lists k) [ None ↦ false | Some ps ↦ is
 
 -- ---- a state
 
--- a state with this layer, these names and these lots
+-- the state with the given layer, names and lots
 abbrev pub state_with : Label → List (Kept (Unit {0})) → List (Lot (Unit {0})) → PlainState
 state_with y ks lots = record { layer = y; names = ks; lots = lots }

@@ -30,9 +30,9 @@ use std::marker::Model;
 #[derive(Drop)]
 pub struct Lots<F: Forms> {
     history: History,
-    // The forms of the lots in the same order, ended ones included.
+    // The forms of the lots in the order of the lots, ended ones included.
     forms: Listed<F::Form>,
-    // How many parts the forms have together.
+    // The number of parts that the forms have together.
     parts: usize,
     // The boxes of all lots.
     boxes: LotBoxes,
@@ -59,7 +59,7 @@ impl<F: Forms> Model for Lots<F> {
 }
 
 impl<F: Forms> Lots<F> {
-    /// No lots. Takes no memory.
+    /// Returns the list of no lots. Takes no memory.
     pub fn new(alloc: Global) -> Lots<F>
         ensures { result ≡ [] }
     {
@@ -77,12 +77,12 @@ impl<F: Forms> Lots<F> {
         ensures few { length self.now ≤ most_kept_parts }
         ensures distinct { IsTrue (are_distinct (ids_of self.now)) }
     {
-        // Only so that what holds of all that is kept is known of the lots.
+        // This makes the invariant known, which says that the ids are distinct.
         let _ = &self.forms;
         &self.history
     }
 
-    /// Returns how many lots there are, ended ones included.
+    /// Returns the number of lots, ended ones included.
     pub fn count(&self) -> usize
         ensures value { result ≡ length self.now }
         ensures few { result ≤ most_kept_parts }
@@ -90,7 +90,7 @@ impl<F: Forms> Lots<F> {
         self.forms.items().len()
     }
 
-    /// Returns the form of a live lot, found without a walk over all lots. `None` exactly where the id isn't live.
+    /// Returns the form of the live lot `id`, without a walk over all lots; `None` iff `id` is not live.
     pub fn find(&self, id: &Name) -> Option<&F::Form>
         ensures { option_map F.parts_of (option_copied result) ≡ parts_of_lot (live_lot id.now self.now) }
     {
@@ -98,7 +98,7 @@ impl<F: Forms> Lots<F> {
         Some(self.form_at(place))
     }
 
-    /// Returns the form of the lot at a place, ended or not.
+    /// Returns the form of the lot at `place`, ended or not.
     pub fn form_at(&self, place: usize) -> &F::Form
         requires { place < length self.now }
         ensures { option_map (λ l. l.parts) (slice_get self.now place) ≡ Some (F.parts_of result.now) }
@@ -106,15 +106,19 @@ impl<F: Forms> Lots<F> {
         &self.forms.items()[place]
     }
 
-    /// Returns the forms of all lots, by their places.
+    /// Returns the forms of all lots, in the order of the lots.
     pub fn forms(&self) -> &[F::Form]
         ensures { map F.parts_of result.now ≡ lot_parts self.now }
     {
         self.forms.items()
     }
 
-    /// Rising places, at or behind `from`: every live lot of `layer`, other than `id`, with a part that may meet one of
-    /// `form`, as `reach` says, is among them; each other one has no such part. `watch` is told of what is visited.
+    /// Returns rising places at or after `from`. Every live lot of `layer`, other than `id`, with a part that may meet
+    /// one of `form`'s, as `reach` says, is at one of these places. `watch` is called at each visited node.
+    ///
+    /// # Errors
+    ///
+    /// `AllocError` if memory runs out.
     pub fn near<W: Watch>(
         &self,
         alloc: Global,
@@ -134,9 +138,9 @@ impl<F: Forms> Lots<F> {
         self.boxes.near(alloc, watch, &self.history, &boxes, layer, id, from, reach)
     }
 
-    /// Returns the first lot of `layer`, of those that are there at `moment`, that has `point`; it is found without a
-    /// walk over all lots. The box of each part has to hold its members. `None` exactly where there is none. Takes no
-    /// memory. `watch` is told of each node that is visited.
+    /// Returns the first lot of `layer` that is there at `moment` and has `point`; `None` iff there is none. No walk
+    /// over all lots is made, and no memory taken. The box of each part must contain its members. `watch` is called at
+    /// each visited node.
     pub fn owner<W: Watch>(
         &self,
         watch: &W,
@@ -155,16 +159,20 @@ impl<F: Forms> Lots<F> {
             .owner(watch, &self.history, layer, moment, point, &holder)
     }
 
-    /// Returns whether all lots together may keep so many more parts.
+    /// Returns whether all lots together may have `parts` more parts.
     pub fn have_room_for(&self, parts: usize) -> bool
         ensures { result ≡ nat_le (parts_under_lots self.now + parts) most_kept_parts }
     {
         parts <= MAX_KEPT_PARTS - self.parts
     }
 
-    /// Ends the lots of the ids `ends` at the line, as far as they are live, and lets others be born in their place,
-    /// each with its form, which go last. All lots were born before the line; the new ids are new and distinct, their
-    /// origins are known, and there is room for them. After `AllocError` all is as before.
+    /// Ends the lots `ends` at `line`, each if it is live, and appends a lot for each of `births`, with its form of
+    /// `forms`. All lots were born before the line. The new ids are new and distinct, their origins are known, and
+    /// there is room for the new lots.
+    ///
+    /// # Errors
+    ///
+    /// `AllocError` if memory runs out. All is then as before.
     pub fn replace(
         &mut self,
         alloc: Global,
@@ -198,7 +206,7 @@ impl<F: Forms> Lots<F> {
         Ok(())
     }
 
-    /// Ends the lot `id` at `line`, where it is live. All lots were born before `line`. Takes no memory.
+    /// Ends the lot `id` at `line`, if it is live. All lots were born before `line`. Takes no memory.
     pub fn end(&mut self, line: u32, id: Name)
         requires { AreBornBefore line self.old }
         ensures { self.new ≡ lots_after line self.old (lots_replaced (id ∷ []) []) }
@@ -208,7 +216,7 @@ impl<F: Forms> Lots<F> {
     }
 }
 
-/// The forms of lots, by their places, and a point.
+/// The forms of lots, in the order of the lots, and a point.
 #[derive(Drop)]
 struct HasPoint<'a, F: Forms> {
     forms: &'a [F::Form],
@@ -226,8 +234,8 @@ impl<F: Forms> Holder for HasPoint<'_, F> {
     }
 }
 
-/// Ends lots of a history and lets others be born, takes in the boxes of these, and makes room for their forms among
-/// those that are kept. After `AllocError` history and boxes are as before.
+/// Ends the lots `ends` of a history and adds `births`, adds the boxes of these, and makes room for their forms in
+/// `kept`. After `AllocError` history and boxes are as before.
 fn take_in<F: Forms>(
     history: &mut History,
     kept: &mut Listed<F::Form>,
@@ -261,7 +269,7 @@ fn take_in<F: Forms>(
     Ok(())
 }
 
-/// Returns how many parts the forms have together.
+/// Returns the number of parts that `forms` have together.
 fn count_parts<F: Forms>(forms: &[F::Form]) -> usize
     requires { sum_by (λ f. length (F.parts_of f)) forms.now ≤ most_kept_parts }
     ensures { result ≡ sum_by (λ f. length (F.parts_of f)) forms.now }

@@ -1,4 +1,4 @@
-//! What names stand for.
+//! The forms of names.
 ghost use Rattle.std.specs.Prelude.{◌≡◌, ◌+◌, ◌&&◌, [], ◌∷◌, ◌++◌, length, nat_le, option_copied, option_map, OnOk, OnErr};
 ghost use Rattle.rp_model.specs.states.State.{kept_named, parts_of_kept, parts_under_names, most_names, most_kept_parts, kept_under};
 ghost use Rattle.rp_store.specs.Kept.{IsNewName};
@@ -12,12 +12,12 @@ use std::alloc::{AllocError, Global};
 use std::fmt;
 use std::marker::Model;
 
-/// The forms that names stand for, in the order of their definition: at most 65,536 names, with at most 65,536 parts
-/// under all of them together.
+/// The forms of names, in the order of their definition: at most 65,536 names, with at most 65,536 parts of all forms
+/// together.
 #[derive(Drop)]
 pub struct NamedForms<F: Forms> {
     forms: IndexMap<Name, F::Form>,
-    // How many parts the forms have together.
+    // The number of parts that the forms have together.
     parts: usize,
 }
 
@@ -41,7 +41,7 @@ impl<F: Forms> Model for NamedForms<F> {
 }
 
 impl<F: Forms> NamedForms<F> {
-    /// No name stands for anything. Takes no memory.
+    /// Returns the map without names. Takes no memory.
     pub fn new(alloc: Global) -> NamedForms<F>
         ensures { result ≡ [] }
     {
@@ -51,21 +51,25 @@ impl<F: Forms> NamedForms<F> {
         }
     }
 
-    /// Returns the form that a name stands for, found without a walk over all names.
+    /// Returns the form of `name`, without a walk over all names; `None` iff it has none.
     pub fn find(&self, name: &Name) -> Option<&F::Form>
         ensures { option_map F.parts_of (option_copied result) ≡ parts_of_kept (kept_named name.now self.now) }
     {
         self.forms.get(name)
     }
 
-    /// Returns whether one more name may stand for the form.
+    /// Returns whether one more name may have `form`.
     pub fn have_room_for(&self, form: &F::Form) -> bool
         ensures { result ≡ (nat_le (length self.now + 1) most_names && nat_le (parts_under_names self.now + length (F.parts_of form.now)) most_kept_parts) }
     {
         self.forms.len() < MAX_NAMES && F::parts(form).len() <= MAX_KEPT_PARTS - self.parts
     }
 
-    /// Keeps `form` under the new `name`, for which there is room. After `AllocError` all is as before.
+    /// Stores `form` under the new `name`, for which there is room.
+    ///
+    /// # Errors
+    ///
+    /// `AllocError` if memory runs out. All is then as before.
     pub fn keep(&mut self, name: Name, form: F::Form) -> Result<(), AllocError>
         requires { IsNewName self.old name (F.parts_of form) }
         ensures ok { OnOk result (self.new ≡ self.old ++ kept_under name (F.parts_of form) ∷ []) }

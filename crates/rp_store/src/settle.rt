@@ -1,4 +1,4 @@
-//! The boxes of lots that end, moved to where lots stand that lived as long.
+//! The boxes of lots that end, moved into the cube for the lines in which they lived.
 ghost use Rattle.std.specs.Prelude.{◌≡◌, ◌≤◌, length, map};
 ghost use Rattle.rp_language.specs.Name.{label_eq, is_among};
 ghost use Rattle.rp_model.specs.states.State.{most_kept_parts};
@@ -11,7 +11,7 @@ use rp_history::History;
 use rp_lists::Name;
 use rp_lotindex::LotBoxes;
 
-/// Moves the boxes of the lots with the ids, whose forms these are, as far as they have some. Takes no memory.
+/// Moves the boxes of the lots `ids`, as far as they have boxes. `forms` are the forms of all lots. Takes no memory.
 pub(crate) fn settle_all<F: Forms>(
     boxes: &mut LotBoxes,
     history: &History,
@@ -27,7 +27,7 @@ pub(crate) fn settle_all<F: Forms>(
     }
 }
 
-/// Moves the boxes of the lot with the id.
+/// Moves the boxes of the lot `id`.
 fn settle<F: Forms>(boxes: &mut LotBoxes, history: &History, forms: &[F::Form], id: &Name)
     requires each { length history.now ≡ length forms.now }
     requires few { length history.now ≤ most_kept_parts }

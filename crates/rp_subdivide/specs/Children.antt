@@ -6,14 +6,14 @@ use Rattle.rp_model.specs.commands.Subdivide.{FormedChild}
 use Rattle.rp_lists.specs.Listed.{Listed}
 use Rattle.rp_subdivide.specs.declared.child.Child.{Child}
 
--- the child of the model
+-- the child of the model for a child of the code
 abbrev pub formed_child : {F : Type 0} → (F → List Part) → Child F → FormedChild
 formed_child view c = record { id = c.id; parts = view c.form }
 
--- children with their forms
+-- the children of the model for children of the code
 abbrev pub formed_children : {F : Type 0} → (F → List Part) → Listed (Child F) → List FormedChild
 formed_children view children = map (formed_child view) children.items
 
--- its form has few parts
+-- the form of the child has at most 1,024 parts
 abbrev pub IsShort : {F : Type 0} → (F → List Part) → Child F → Type 0
 IsShort view c = length (view c.form) ≤ most_parts

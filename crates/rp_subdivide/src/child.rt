@@ -2,7 +2,7 @@
 
 use rp_lists::Name;
 
-/// A child of a subdivision: the id of the lot to be made, and its form.
+/// A child of a subdivision: the id of the new lot, and its form.
 #[derive(Drop)]
 pub struct Child<F: Drop> {
     pub id: Name,

@@ -1,4 +1,4 @@
-//! The children of a subdivision: what is asked of them.
+//! The checks of the children of a subdivision.
 ghost use Rattle.std.specs.Prelude.{◌≡◌, ◌+◌, ◌*◌, ◌≤◌, length, map, not, option_map, IfOk};
 ghost use Rattle.std.specs.List.{AllByRecursion};
 ghost use Rattle.rp_semantics.specs.Walk.{Walk};
@@ -22,7 +22,7 @@ use rp_eval::{is_empty, within};
 use rp_oracle::{Stopped, Oracle};
 use std::alloc::{AllocError, Global};
 
-/// Returns the ids of children, in order.
+/// Returns the ids of `children`, in order.
 pub(crate) fn child_ids<T: Oracle>(
     alloc: Global,
     children: &[Child<T::Form>],
@@ -51,7 +51,7 @@ pub(crate) fn first_empty<T: Oracle>(children: &[Child<T::Form>]) -> Option<u32>
     None
 }
 
-/// Returns how many parts children have together.
+/// Returns the number of parts that `children` have together.
 pub(crate) fn count_all<T: Oracle>(children: &[Child<T::Form>]) -> usize
     requires few { length children.now ≤ 1024 }
     requires short { AllByRecursion (IsShort T.parts_of) children.now }
@@ -64,7 +64,7 @@ pub(crate) fn count_all<T: Oracle>(children: &[Child<T::Form>]) -> usize
     count
 }
 
-/// Each child lies in `whole`.
+/// Checks that each of `children` is within `whole`. `Outside` with the number of the first that is not.
 pub(crate) fn check_inside<T: Oracle>(
     alloc: Global,
     whole: &T::Form,
@@ -80,7 +80,7 @@ pub(crate) fn check_inside<T: Oracle>(
     }
 }
 
-/// Returns the number of the first child that has a point outside a form.
+/// Returns the number of the first child that has a point outside `whole`.
 fn first_outside<T: Oracle>(
     alloc: Global,
     whole: &T::Form,
@@ -100,7 +100,8 @@ fn first_outside<T: Oracle>(
     Ok(None)
 }
 
-/// No two children share a point. Their pairs of parts whose boxes share more than boundary are counted first.
+/// Checks that no two of `children` share a point. As many tests are counted as there are pairs of parts of two
+/// children whose boxes share more than boundary.
 pub(crate) fn check_apart<T: Oracle, K: Overlaps<T>>(
     alloc: Global,
     children: &[Child<T::Form>],
@@ -117,7 +118,7 @@ pub(crate) fn check_apart<T: Oracle, K: Overlaps<T>>(
     }
 }
 
-/// Returns how many pairs of parts of two children have boxes that share more than boundary.
+/// Returns the number of pairs of parts of two children whose boxes share more than boundary.
 fn count_near<T: Oracle, K: Keeper<T>>(children: &[Child<T::Form>]) -> u64
     requires few { length children.now ≤ 1024 }
     requires short { AllByRecursion (IsShort T.parts_of) children.now }
@@ -130,7 +131,7 @@ fn count_near<T: Oracle, K: Keeper<T>>(children: &[Child<T::Form>]) -> u64
     pairs
 }
 
-/// Returns how many pairs of a part of a child and one of some others have boxes that share more than boundary.
+/// Returns the number of pairs of a part of `child` and a part of one of `others` whose boxes share more than boundary.
 fn count_near_with<T: Oracle, K: Keeper<T>>(child: &Child<T::Form>, others: &[Child<T::Form>]) -> u64
     requires one { IsShort T.parts_of child.now }
     requires few { length others.now ≤ 1024 }
@@ -145,8 +146,8 @@ fn count_near_with<T: Oracle, K: Keeper<T>>(child: &Child<T::Form>, others: &[Ch
     pairs
 }
 
-/// Returns the numbers of the first two children that share a point. Only pairs of parts are tested whose boxes share
-/// more than boundary, and nothing is counted.
+/// Returns the numbers of the first two children that share a point. Only pairs of parts whose boxes share more than
+/// boundary are tested, and no test is counted.
 fn first_overlapping<T: Oracle, K: Overlaps<T>>(
     alloc: Global,
     children: &[Child<T::Form>],
@@ -167,7 +168,7 @@ fn first_overlapping<T: Oracle, K: Overlaps<T>>(
     Ok(None)
 }
 
-/// Returns the number of the first of the children behind one, of this number, that shares a point with it.
+/// Returns the number of the first child of `behind` that shares a point with `child`, whose number is `first`.
 fn first_overlapping_with<T: Oracle, K: Overlaps<T>>(
     alloc: Global,
     first: u32,
@@ -188,7 +189,7 @@ fn first_overlapping_with<T: Oracle, K: Overlaps<T>>(
     Ok(None)
 }
 
-/// The children leave no point of `whole` out.
+/// Checks that the children cover every point of `whole`. `Gap` if they do not.
 pub(crate) fn check_covered<T: Oracle>(
     alloc: Global,
     whole: &T::Form,
@@ -203,7 +204,7 @@ pub(crate) fn check_covered<T: Oracle>(
     Ok(())
 }
 
-/// Returns whether a form has a point that no child has: the children are taken away one after the other.
+/// Returns whether `whole` has a point that no child has: the children are subtracted one after another.
 fn has_gap<T: Oracle>(
     alloc: Global,
     whole: &T::Form,
@@ -216,7 +217,7 @@ fn has_gap<T: Oracle>(
     Ok(!is_empty(alloc, &left, tests)?)
 }
 
-/// Returns what is left of a form outside all children.
+/// Returns the rest of `whole` outside all children.
 fn left_of<T: Oracle>(
     alloc: Global,
     whole: &T::Form,

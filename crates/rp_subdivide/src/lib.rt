@@ -1,9 +1,8 @@
 #![tactic(auto)]
-//! The row of a subdivision, written once over whatever answers its tests and keeps the register.
+//! The row of a subdivision. The code is generic in the tester and in the register.
 //!
-//! It comes to the change, the refusal or the stop that its definition has for it, and makes exactly the tests of that.
-//! No change is made here: it is answered, and what keeps the register makes it. Calls that answer `AllocError` do so
-//! only for want of memory.
+//! It returns the change, the refusal or the stop of its definition, and makes exactly its tests. The change is
+//! returned and not made here: the register makes it. A call returns `AllocError` only if memory runs out.
 
 mod child;
 mod children;

@@ -1,4 +1,4 @@
-//! The row of a subdivision: first the forms of its children are made, then the rest is walked.
+//! The row of a subdivision: the forms of its children are made first, and the checks follow.
 ghost use Rattle.std.specs.Prelude.{◌≡◌, ◌≤◌, [], IfOk, length, map};
 ghost use Rattle.std.specs.List.{AllByRecursion};
 ghost use Rattle.rp_command.specs.Views.{child_of, shapes_of};
@@ -20,8 +20,12 @@ use rp_eval::first_unknown;
 use rp_oracle::{Stopped, Oracle};
 use std::alloc::Global;
 
-/// Returns the change of `subdivide`: the lot `id` into a lot for each of `entries`, which have the new ids and the
-/// expressions of their forms.
+/// Returns the change of `subdivide`: it divides the lot `id` into a lot for each of `entries`, which have the new ids
+/// and the expressions of their forms.
+///
+/// # Errors
+///
+/// `Refused` or `Stopped`, as the definition of the row says.
 pub fn subdivision<T: Oracle, K: Registry<T>>(
     alloc: Global,
     keeper: &K,
@@ -40,7 +44,7 @@ pub fn subdivision<T: Oracle, K: Registry<T>>(
     replacing(subdivide(alloc, keeper, id, children, tests))
 }
 
-/// Returns the first name or lot of the expressions, in reading order, that isn't there.
+/// Returns the first name or lot of the expressions, in reading order, that is not there.
 fn first_unknown_shape<T: Oracle, K: Registry<T>>(
     keeper: &K,
     entries: &[(Name, Expr)],
@@ -57,7 +61,7 @@ fn first_unknown_shape<T: Oracle, K: Registry<T>>(
     None
 }
 
-/// Returns the children of some ids and expressions, all of whose names are there: the forms are made in order.
+/// Returns the children of `entries`, all of whose names are there. The forms are made in order.
 fn children<T: Oracle, K: Registry<T>>(
     alloc: Global,
     keeper: &K,

@@ -1,4 +1,4 @@
-//! A lot is divided into children.
+//! The division of a lot into children.
 ghost use Rattle.std.specs.Prelude.{◌≡◌, ◌<◌, ◌≤◌, ◌∷◌, [], List, None, IfOk, length, map, slice_get};
 ghost use Rattle.std.specs.List.{AllByRecursion};
 ghost use Rattle.rp_geometry.specs.sets.Shape.{Part};
@@ -24,8 +24,12 @@ use rp_lots::{Keeper, Overlaps, Replaced, add_born, check_room, form_at};
 use rp_oracle::Oracle;
 use std::alloc::{AllocError, Global};
 
-/// Returns the change that divides the live lot `id` into children, which lie in it, share no point and leave no gap.
+/// Returns the change that divides the live lot `id` into `children`, which are in it, share no point and leave no gap.
 /// As many tests are counted as there are pairs of parts of two children whose boxes share more than boundary.
+///
+/// # Errors
+///
+/// `Refused` or `Stopped`, as the definition of the row says.
 pub fn subdivide<T: Oracle, K: Overlaps<T>>(
     alloc: Global,
     keeper: &K,
@@ -45,8 +49,8 @@ pub fn subdivide<T: Oracle, K: Overlaps<T>>(
     Ok(children_born(alloc, layer, id, children)?)
 }
 
-/// Makes the checks of a subdivision that need no test: names, a part in each child, and room for their parts.
-/// Answers the place of the lot.
+/// Checks a subdivision as far as no test is needed: names, a part in each child, and room for their parts. Returns the
+/// index of the lot.
 fn check_children<T: Oracle, K: Keeper<T>>(
     alloc: Global,
     keeper: &K,
@@ -69,7 +73,7 @@ fn check_children<T: Oracle, K: Keeper<T>>(
     Ok(place)
 }
 
-/// The children lie in `whole`, share no point and leave no gap.
+/// Checks that the children are within `whole`, share no point and leave no gap.
 fn check_division<T: Oracle, K: Overlaps<T>>(
     alloc: Global,
     whole: &T::Form,
@@ -85,7 +89,7 @@ fn check_division<T: Oracle, K: Overlaps<T>>(
     check_covered(alloc, whole, children, tests)
 }
 
-/// Children are born of a lot, in its layer, in order.
+/// Returns the change that ends `origin` and adds `children` as lots of `layer`, in order.
 fn children_born<F: Drop>(
     alloc: Global,
     layer: Name,

@@ -11,7 +11,7 @@ use Rattle.rp_syntax.specs.declared.keywords.Comparison.TheVariants as compariso
 use Rattle.rp_syntax.specs.declared.keywords.Verb.{Verb}
 use Rattle.rp_syntax.specs.declared.keywords.Verb.TheVariants as verbs
 
--- the node of the grammar
+-- the node of the grammar for a node of the code
 abbrev pub node_of : Node → ModelNode
 node_of nodes.Half = half_node
 node_of nodes.Block = box_node
@@ -25,7 +25,7 @@ node_of nodes.Name = name_node
 node_of nodes.Lot = lot_node
 node_of nodes.Prism = prism_node
 
--- the command of the grammar that compares two regions
+-- the command of the grammar for a comparison of the code
 abbrev pub comparison_of : Comparison → ModelVerb
 comparison_of comparisons.Equal = equal_verb
 comparison_of comparisons.Within = within_verb
@@ -33,7 +33,7 @@ comparison_of comparisons.Overlap = overlap_verb
 comparison_of comparisons.Contact = contact_verb
 comparison_of comparisons.Rcc = rcc_verb
 
--- the command of the grammar
+-- the command of the grammar for a command of the code
 abbrev pub verb_of : Verb → ModelVerb
 verb_of verbs.Let = let_verb
 verb_of verbs.Member = member_verb
@@ -56,6 +56,6 @@ verb_of verbs.Layer = layer_verb
 verb_of verbs.Section = section_verb
 verb_of verbs.Access = access_verb
 
--- the words of a table in the code, with what they stand for
+-- the words of a table in the code, with their values
 abbrev pub words_in : {A : Type 0} → List (Bor (List ℕ) × A) → List (Word × A)
 words_in table = map (λ entry. (entry.0.now, entry.1)) table

@@ -23,7 +23,7 @@ const MAX_LOTS: u32 = 65536;
 const MAX_LINES: u32 = 16777216;
 
 impl<'a> Words<'a> {
-    /// The next word, which begins a command.
+    /// Reads the next word and returns the command that it begins. `Bad(Syntax)` if it begins none.
     fn verb(&mut self) -> Result<Verb, ReadFault>
         ensures { Reads verb_of result self.new (keyword verb_table self.old) }
     {
@@ -34,7 +34,7 @@ impl<'a> Words<'a> {
         }
     }
 
-    /// The word that stands between a name and what it is to name.
+    /// Reads the word `=`. `Bad(Syntax)` if the next word is another or the line has ended.
     fn equals(&mut self) -> Result<(), ReadFault>
         ensures { Reads (λ _. tt) result self.new (equals_word self.old) }
     {
@@ -45,7 +45,7 @@ impl<'a> Words<'a> {
         Err(ReadFault::Bad(Why::Syntax))
     }
 
-    /// What follows the word `let`.
+    /// Reads the operands of `let`: a name, `=` and an expression in `version`.
     fn definition(&mut self, alloc: Global, version: Version) -> Result<Command, ReadFault>
         ensures { Reads command_of result self.new (verb_words (version_of version) let_verb self.old) }
     {
@@ -55,7 +55,7 @@ impl<'a> Words<'a> {
         Ok(Command::Let(name, region))
     }
 
-    /// What follows the word `member`.
+    /// Reads the operands of `member`: an expression and a point, in `version`.
     fn member(&mut self, alloc: Global, version: Version) -> Result<Command, ReadFault>
         ensures { Reads command_of result self.new (verb_words (version_of version) member_verb self.old) }
     {
@@ -64,7 +64,7 @@ impl<'a> Words<'a> {
         Ok(Command::Member(region, point))
     }
 
-    /// Two expressions, and a command that compares them.
+    /// Reads the operands of a command that compares two regions: two expressions in `version`.
     fn comparison(
         &mut self,
         alloc: Global,
@@ -84,7 +84,7 @@ impl<'a> Words<'a> {
         })
     }
 
-    /// What follows the word `register`.
+    /// Reads the operands of `register`: a name and an expression in `version`.
     fn registration(&mut self, alloc: Global, version: Version) -> Result<Command, ReadFault>
         ensures { Reads command_of result self.new (verb_words (version_of version) register_verb self.old) }
     {
@@ -93,7 +93,7 @@ impl<'a> Words<'a> {
         Ok(Command::Register(id, region))
     }
 
-    /// What follows the word `cut`.
+    /// Reads the operands of `cut`: the name of a lot, an expression in `version` and the names of two new lots.
     fn cut(&mut self, alloc: Global, version: Version) -> Result<Command, ReadFault>
         ensures { Reads command_of result self.new (verb_words (version_of version) cut_verb self.old) }
     {
@@ -104,7 +104,7 @@ impl<'a> Words<'a> {
         Ok(Command::Cut(lot, region, first, second))
     }
 
-    /// A child of a subdivision.
+    /// Reads a child of a subdivision: a name and an expression in `version`.
     fn child(&mut self, alloc: Global, version: Version) -> Result<(Name, Expr), ReadFault>
         ensures { Reads child_of result self.new (child (version_of version) self.old) }
     {
@@ -113,7 +113,7 @@ impl<'a> Words<'a> {
         Ok((id, region))
     }
 
-    /// The children of a subdivision, `count` of them.
+    /// Reads `count` children of a subdivision, in `version`.
     fn children(
         &mut self,
         alloc: Global,
@@ -130,7 +130,8 @@ impl<'a> Words<'a> {
         Ok(children)
     }
 
-    /// What follows the word `subdivide`.
+    /// Reads the operands of `subdivide`: the name of a lot, a count from 0 to 1,024 and as many children, in
+    /// `version`.
     fn subdivision(&mut self, alloc: Global, version: Version) -> Result<Command, ReadFault>
         ensures { Reads command_of result self.new (verb_words (version_of version) subdivide_verb self.old) }
     {
@@ -140,7 +141,7 @@ impl<'a> Words<'a> {
         Ok(Command::Subdivide(lot, children))
     }
 
-    /// The ids of `count` lots.
+    /// Reads the ids of `count` lots.
     fn lots(&mut self, alloc: Global, count: u32) -> Result<Names, ReadFault>
         ensures { Reads (λ lots. lots.items) result self.new (many count name self.old) }
     {
@@ -152,7 +153,7 @@ impl<'a> Words<'a> {
         Ok(lots)
     }
 
-    /// What follows the word `consolidate`.
+    /// Reads the operands of `consolidate`: the name of the new lot, a count from 0 to 65,536 and as many lots' names.
     fn consolidation(&mut self, alloc: Global) -> Result<Command, ReadFault>
         ensures { (v : ModelVersion) → Reads command_of result self.new (verb_words v consolidate_verb self.old) }
     {
@@ -162,7 +163,7 @@ impl<'a> Words<'a> {
         Ok(Command::Consolidate(new, lots))
     }
 
-    /// What follows the word `asof`.
+    /// Reads the operands of `asof`: the number of a line, from 0 to 16,777,216, and a point in `version`.
     fn as_of(&mut self, version: Version) -> Result<Command, ReadFault>
         ensures { Reads command_of result self.new (verb_words (version_of version) asof_verb self.old) }
     {
@@ -171,7 +172,7 @@ impl<'a> Words<'a> {
         Ok(Command::Asof(line, point))
     }
 
-    /// What follows the word `section`.
+    /// Reads the operands of `section`: an expression and a height, in `version`.
     fn section(&mut self, alloc: Global, version: Version) -> Result<Command, ReadFault>
         ensures { Reads command_of result self.new (verb_words (version_of version) section_verb self.old) }
     {
@@ -180,7 +181,7 @@ impl<'a> Words<'a> {
         Ok(Command::Section(region, z))
     }
 
-    /// What follows the word `access`.
+    /// Reads the operands of `access`: the names of two lots.
     fn access(&mut self) -> Result<Command, ReadFault>
         ensures { (v : ModelVersion) → Reads command_of result self.new (verb_words v access_verb self.old) }
     {
@@ -189,7 +190,7 @@ impl<'a> Words<'a> {
         Ok(Command::Access(from, to))
     }
 
-    /// What follows the word of a command.
+    /// Reads the operands of the command `verb`, in `version`.
     fn command_for(
         &mut self,
         alloc: Global,
@@ -222,7 +223,7 @@ impl<'a> Words<'a> {
         }
     }
 
-    /// What was read, if the line ends behind it.
+    /// Returns `read` if the line has ended; otherwise `Bad(Syntax)`.
     fn last<T: Drop>(&self, read: T) -> Result<T, ReadFault>
         ensures same { IfOk result (λ given. given ≡ read) }
         ensures end { Reads (λ _. tt) result self.now (end_of_line self.now) }
@@ -231,7 +232,7 @@ impl<'a> Words<'a> {
         Ok(read)
     }
 
-    /// A whole command, in `version`, up to the end of the line.
+    /// Reads a whole command in `version`, up to the end of the line. The fault is the first in reading order.
     #[tactic(auto, unfolding(rp_language::specs::Grammar::command_words))]
     pub fn command(&mut self, alloc: Global, version: Version) -> Result<Command, ReadFault>
         ensures { Reads command_of result self.new (command_words (version_of version) self.old) }

@@ -12,11 +12,11 @@ use crate::words::Words;
 use rp_command::{Expr, Version, Why};
 use std::alloc::Global;
 
-/// One level more than there may be nodes: each level counts a node, so this is never passed.
+/// The limit of levels of an expression. No line reaches it, since each level counts one of at most 1,024 nodes.
 const MAX_LEVELS: u32 = 1025;
 
 impl<'a> Words<'a> {
-    /// The next word, which begins a node.
+    /// Reads the next word and returns the kind of node that it begins. `Bad(Syntax)` if it begins none.
     fn node(&mut self) -> Result<Node, ReadFault>
         ensures { Reads node_of result self.new (keyword node_table self.old) }
     {
@@ -27,7 +27,7 @@ impl<'a> Words<'a> {
         }
     }
 
-    /// An expression, in `version`.
+    /// Reads an expression in `version`.
     #[tactic(auto, unfolding(rp_language::specs::Grammar::expression))]
     pub fn expression(&mut self, alloc: Global, version: Version) -> Result<Expr, ReadFault>
         ensures { Reads expression_of result self.new (expression (version_of version) self.old) }
@@ -35,7 +35,7 @@ impl<'a> Words<'a> {
         self.expression_within(alloc, version, MAX_LEVELS)
     }
 
-    /// An expression of less than so many levels.
+    /// Reads an expression in `version` with at most `room` levels.
     #[cycle(expression)]
     fn expression_within(
         &mut self,
@@ -53,7 +53,7 @@ impl<'a> Words<'a> {
         self.behind(alloc, version, room - 1, node)
     }
 
-    /// What follows the word of a node. Its operands have less than so many levels.
+    /// Reads the operands of `node`, in `version`, each with at most `room` levels.
     #[cycle(expression)]
     fn behind(
         &mut self,
@@ -79,7 +79,7 @@ impl<'a> Words<'a> {
         }
     }
 
-    /// An operand of less than so many levels.
+    /// Reads an operand in `version` with at most `room` levels, and puts it in a box.
     #[cycle(expression)]
     fn operand(
         &mut self,
@@ -93,7 +93,7 @@ impl<'a> Words<'a> {
         Ok(Box::new(alloc, operand)?)
     }
 
-    /// Two operands of less than so many levels, of which a node may be made.
+    /// Reads two operands in `version`, each with at most `room` levels.
     #[cycle(expression)]
     fn operands(
         &mut self,
@@ -108,7 +108,7 @@ impl<'a> Words<'a> {
         Ok((first, second))
     }
 
-    /// What two operands have in common.
+    /// Reads the two operands of an intersection, each with at most `room` levels.
     #[cycle(expression)]
     fn intersection(
         &mut self,
@@ -122,7 +122,7 @@ impl<'a> Words<'a> {
         Ok(Expr::And(first, second))
     }
 
-    /// The points of either operand.
+    /// Reads the two operands of a union, each with at most `room` levels.
     #[cycle(expression)]
     fn union(&mut self, alloc: Global, version: Version, room: u32) -> Result<Expr, ReadFault>
         ensures { Reads expression_of result self.new (two_operands (expression_within (version_of version) room) union self.old) }
@@ -131,7 +131,7 @@ impl<'a> Words<'a> {
         Ok(Expr::Or(first, second))
     }
 
-    /// The rest of an operand outside the other one.
+    /// Reads the two operands of a difference, each with at most `room` levels.
     #[cycle(expression)]
     fn difference(&mut self, alloc: Global, version: Version, room: u32) -> Result<Expr, ReadFault>
         ensures { Reads expression_of result self.new (two_operands (expression_within (version_of version) room) difference self.old) }

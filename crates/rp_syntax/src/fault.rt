@@ -1,14 +1,14 @@
-//! Why reading a line ends early.
+//! The reasons why a command is not read.
 ghost use Rattle.std.specs.Prelude.{◌≡◌};
 ghost use Rattle.rp_syntax.specs.declared.fault.ReadFault.TheVariants.{Memory};
 
 use rp_command::Why;
 use std::alloc::{AllocError, AllocFailed};
 
-/// Why a command was not read.
+/// The reason why a command was not read.
 #[derive(Clone, Copy)]
 pub enum ReadFault {
-    /// The line is no command.
+    /// The line is no command, for the reason `Why`.
     Bad(Why),
     /// Memory ran out.
     Memory(AllocError),

@@ -97,7 +97,7 @@ const VERBS: [(&[u8], Verb); 24] = [
     (b"access", Verb::Access),
 ];
 
-/// What a word stands for in a table.
+/// Returns the value of `word` in `table`; `None` iff it is not there.
 fn looked_up<T: Copy>(word: &[u8], table: &[(&[u8], T)]) -> Option<T>
     ensures { result ≡ looked_up word.now (words_in table.now) }
 {
@@ -109,14 +109,14 @@ fn looked_up<T: Copy>(word: &[u8], table: &[(&[u8], T)]) -> Option<T>
     None
 }
 
-/// The node that a word begins.
+/// Returns the kind of node that `word` begins; `None` iff it begins none.
 pub fn node_for(word: &[u8]) -> Option<Node>
     ensures { option_map node_of result ≡ looked_up word.now node_table }
 {
     looked_up(word, &NODES)
 }
 
-/// The command that a word begins.
+/// Returns the command that `word` begins; `None` iff it begins none.
 pub fn verb_for(word: &[u8]) -> Option<Verb>
     ensures { option_map verb_of result ≡ looked_up word.now verb_table }
 {

@@ -1,8 +1,8 @@
 #![tactic(auto)]
 //! The line grammar: a line of bytes is read as a command, or refused.
 //!
-//! In each version [`read_line`] reads a line as the command that the grammar says, or finds the first fault that it
-//! says, for every sequence of bytes. Calls that answer `AllocError` do so only for want of memory.
+//! In each version and for every sequence of bytes, [`read_line`] reads the command that the grammar reads, or finds
+//! its first fault. A call returns `AllocError` only if memory runs out.
 
 ghost use Rattle.std.specs.Prelude.{◌≡◌, IfOk};
 ghost use Rattle.rp_command.specs.Versions.{version_of};
@@ -23,7 +23,7 @@ pub use rp_command::{Command, Expr, Version, Why};
 use std::alloc::{AllocError, Global};
 use words::Words;
 
-/// The longest line that may be a command, in bytes.
+/// Returns the most bytes that a command line may have in `version`.
 fn max_line(version: Version) -> usize
     ensures { result ≡ most_bytes (version_of version) }
 {
@@ -33,7 +33,7 @@ fn max_line(version: Version) -> usize
     }
 }
 
-/// Whether a line says nothing: it is empty or a note.
+/// Returns whether a line is blank: empty, or a note, which begins with `#`.
 fn is_blank(line: &[u8]) -> bool
     ensures { result ≡ is_blank line.now }
 {
@@ -43,9 +43,10 @@ fn is_blank(line: &[u8]) -> bool
     }
 }
 
-/// What `line`, without its ending, says in `version`: nothing, a command, or the first fault in reading order.
+/// Reads `line`, which has no line end, in `version`: it is blank, a command, or bad by its first fault in reading
+/// order.
 ///
-/// `Long` where it has more than 65,536 bytes, or 262,144 in version 2.
+/// The fault is `Long` iff the line has more than 65,536 bytes, or 262,144 in version 2.
 #[tactic(auto, unfolding(rp_language::specs::Grammar::reading))]
 pub fn read_line(alloc: Global, version: Version, line: &[u8]) -> Result<Line, AllocError>
     ensures { IfOk result (λ l. line_of l ≡ reading (version_of version) line.now) }

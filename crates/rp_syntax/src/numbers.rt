@@ -38,7 +38,7 @@ const MIN_CORNERS: u32 = 3;
 const MAX_CORNERS: u32 = 256;
 
 impl<'a> Words<'a> {
-    /// The next word as a coordinate from `least` to `greatest`.
+    /// Reads the next word as a coordinate in `version`, from `least` to `greatest`. `Range` if it is outside.
     #[tactic(auto, unfolding(rp_language::specs::Grammar::coordinate))]
     pub fn coordinate(
         &mut self,
@@ -62,7 +62,7 @@ impl<'a> Words<'a> {
         }
     }
 
-    /// The next word as a number from `least` to `greatest`. Numbers are spelled as coordinates of version 1.
+    /// Reads the next word as a whole number from `least` to `greatest`, spelled like a coordinate of version 1.
     #[tactic(auto, unfolding(rp_language::specs::Grammar::coordinate, rp_language::specs::Grammar::number))]
     fn number(&mut self, least: i128, greatest: i128) -> Result<i128, ReadFault>
         requires least { IsHeldBound least }
@@ -73,7 +73,7 @@ impl<'a> Words<'a> {
         self.coordinate(Version::One, least, greatest)
     }
 
-    /// The next word as a count from `least` to `greatest`.
+    /// Reads the next word as a count from `least` to `greatest`.
     pub fn count(&mut self, least: u32, greatest: u32) -> Result<u32, ReadFault>
         ensures { Reads (λ n. n) result self.new (count_between least greatest self.old) }
     {
@@ -81,7 +81,7 @@ impl<'a> Words<'a> {
         Ok(count as u32)
     }
 
-    /// The four numbers of a half-space.
+    /// Reads the four numbers of a half-space and returns it in lowest terms. `Zero` if all four are 0.
     #[tactic(auto, unfolding(rp_language::specs::Grammar::half_space_numbers))]
     pub fn half(&mut self) -> Result<Half, ReadFault>
         ensures { Reads (λ h. h) result self.new (half_space_numbers self.old) }
@@ -93,7 +93,7 @@ impl<'a> Words<'a> {
         half_space(a, b, c, d)
     }
 
-    /// The four numbers of a point, in `version`.
+    /// Reads the four numbers of a point, in `version`, and returns it in lowest terms.
     #[tactic(auto, unfolding(rp_language::specs::Grammar::point))]
     pub fn point(&mut self, version: Version) -> Result<Point, ReadFault>
         ensures { Reads (λ p. p) result self.new (point (version_of version) self.old) }
@@ -105,7 +105,7 @@ impl<'a> Words<'a> {
         rational_point(x, y, z, w)
     }
 
-    /// One coordinate of the closed domain cube.
+    /// Reads one coordinate of the closed domain cube, in `version`: -2^24 to 2^24.
     fn side(&mut self, version: Version) -> Result<i32, ReadFault>
         ensures { Reads (λ v. v) result self.new (cube_coordinate (version_of version) self.old) }
     {
@@ -113,7 +113,7 @@ impl<'a> Words<'a> {
         Ok(v as i32)
     }
 
-    /// The six numbers of a box, in `version`.
+    /// Reads the six numbers of a box, in `version`: its least corner, then its greatest.
     #[tactic(auto, unfolding(rp_language::specs::Grammar::box_numbers))]
     pub fn block(&mut self, version: Version) -> Result<IntBox, ReadFault>
         ensures { Reads integer_box result self.new (box_numbers (version_of version) self.old) }
@@ -130,7 +130,7 @@ impl<'a> Words<'a> {
         })
     }
 
-    /// The two numbers of a corner.
+    /// Reads the two numbers of a polygon's corner, in `version`, each from -2^23 to 2^23.
     #[tactic(auto, unfolding(rp_language::specs::Grammar::corner_numbers))]
     fn corner(&mut self, version: Version) -> Result<Corner, ReadFault>
         ensures { Reads polygon_corner result self.new (corner_numbers (version_of version) self.old) }
@@ -143,7 +143,7 @@ impl<'a> Words<'a> {
         })
     }
 
-    /// The corners of a polygon, `count` of them.
+    /// Reads `count` corners of a polygon, in `version`.
     fn corners(&mut self, alloc: Global, version: Version, count: u32) -> Result<Corners, ReadFault>
         ensures { Reads (λ corners. polygon_corners corners.items) result self.new (many count (corner_numbers (version_of version)) self.old) }
     {
@@ -155,7 +155,7 @@ impl<'a> Words<'a> {
         Ok(corners)
     }
 
-    /// A prism, in `version`: its two heights and its corners.
+    /// Reads a prism in `version`: its two heights, a count from 3 to 256, and as many corners.
     #[tactic(auto, unfolding(rp_language::specs::Grammar::prism_numbers))]
     pub fn prism(&mut self, alloc: Global, version: Version) -> Result<Expr, ReadFault>
         ensures { Reads expression_of result self.new (read_on (λ s. gives (prism s)) (prism_numbers (version_of version) self.old)) }
@@ -167,7 +167,7 @@ impl<'a> Words<'a> {
         Ok(Expr::Prism(low, high, corners))
     }
 
-    /// A whole height of the domain cube, in `version`.
+    /// Reads a height in `version`: -2^24 to 2^24 - 1.
     pub fn height(&mut self, version: Version) -> Result<i32, ReadFault>
         ensures { Reads (λ z. z) result self.new (height (version_of version) self.old) }
     {

@@ -8,7 +8,7 @@ use crate::fault::ReadFault;
 use rp_command::Why;
 use rp_space::{Half, HalfFault, Point};
 
-/// The half-space of the numbers `a`, `b`, `c` and `d`, which are within their bounds; `Zero` where all four are 0.
+/// Returns the half-space of the numbers `a`, `b`, `c` and `d`, in lowest terms; `Zero` if all four are 0.
 pub fn half_space(a: i128, b: i128, c: i128, d: i128) -> Result<Half, ReadFault>
     requires { IsTrue (is_half_space_in_bounds (half_space_of a b c d)) }
     ensures { (place : Place) → Reads (λ h. h) result place (nonzero_half_space (half_space_of a b c d) place) }
@@ -20,8 +20,8 @@ pub fn half_space(a: i128, b: i128, c: i128, d: i128) -> Result<Half, ReadFault>
     }
 }
 
-/// The point of the numbers `x`, `y`, `z` and the weight `w`, in lowest terms. The weight is at least 1, and all four
-/// are within their bounds.
+/// Returns the point of the numbers `x`, `y`, `z` and the weight `w`, in lowest terms. The caller has checked that the
+/// weight is at least 1 and that all four are within the bounds of points.
 pub fn rational_point(x: i128, y: i128, z: i128, w: i128) -> Result<Point, ReadFault>
     requires weight { IsTrue (int_le (pos 1) w) }
     requires bounds { IsTrue (is_point_in_bounds (point_of x y z w)) }

@@ -13,14 +13,14 @@ use std::marker::Model;
 /// The most nodes that the expressions of a line may have together.
 const MAX_NODES: u32 = 1024;
 
-/// The place of the first space.
+/// Returns the index of the first space.
 fn space_in(text: &[u8]) -> Option<usize>
     ensures { result ≡ position is_space text.now }
 {
     text.iter().position(|byte| *byte == b' ')
 }
 
-/// The first word of a text, and what stands behind its space where there is one.
+/// Splits a text at its first space. Returns the word before the space and, if there is a space, the text after it.
 fn split_word(text: &[u8]) -> (&[u8], Option<&[u8]>)
     ensures { words_of text.now ≡ result.0.now ∷ words_left result.1 }
 {
@@ -30,8 +30,8 @@ fn split_word(text: &[u8]) -> (&[u8], Option<&[u8]>)
     }
 }
 
-/// A place in a line: the words that are still to be read, and how many nodes of expressions have begun.
-/// A word is what stands between single spaces, perhaps nothing.
+/// A position in a line: the words that are still to be read, and the number of expression nodes that have begun.
+/// A word is the text between single spaces; it may be empty.
 #[derive(Drop)]
 pub struct Words<'a> {
     rest: Option<&'a [u8]>,
@@ -48,7 +48,7 @@ impl<'a> Model for Words<'a> {
 }
 
 impl<'a> Words<'a> {
-    /// All words of a line.
+    /// Returns the position before the first word of `line`.
     pub fn new(line: &'a [u8]) -> Words<'a>
         ensures { result ≡ record { words = words_of line.now; nodes = 0 } }
     {
@@ -58,7 +58,7 @@ impl<'a> Words<'a> {
         }
     }
 
-    /// The next word.
+    /// Reads the next word. `Bad(Syntax)` if the line has ended.
     pub fn next(&mut self) -> Result<&'a [u8], ReadFault>
         ensures { Reads (λ w. w.now) result self.new (next_word self.old) }
     {
@@ -70,7 +70,7 @@ impl<'a> Words<'a> {
         Ok(word)
     }
 
-    /// The end of the line.
+    /// Checks that no word is left. `Bad(Syntax)` if one is.
     pub fn end(&self) -> Result<(), ReadFault>
         ensures { Reads (λ _. tt) result self.now (end_of_line self.now) }
     {
@@ -80,7 +80,7 @@ impl<'a> Words<'a> {
         }
     }
 
-    /// Counts one more node, up to the limit.
+    /// Counts one more node. `Bad(Nodes)` if 1,024 are already counted.
     pub fn count_node(&mut self) -> Result<(), ReadFault>
         ensures { Reads (λ _. tt) result self.new (count_node self.old) }
     {
@@ -91,7 +91,7 @@ impl<'a> Words<'a> {
         Ok(())
     }
 
-    /// The next word as a name.
+    /// Reads the next word as a name. `Bad(Syntax)` if it is none.
     pub fn name(&mut self) -> Result<Name, ReadFault>
         ensures { Reads (λ x. x) result self.new (name self.old) }
     {

@@ -1,10 +1,10 @@
--- Texts that come to the end of others, whole or only a front of them.
+-- Texts that are appended, whole or only a prefix of them.
 use Rattle.std.specs.Prelude.{◌≡◌, ℕ, List, ◌++◌, Result, Ok, Err}
 use Rattle.std.specs.List.{flat_map}
 use denote.Ref.{Bor}
 use Rattle.rp_command.specs.Fronts.{AppendsFront}
 
--- a call that was to append the text has appended it; where it failed, a front of it
+-- a call that appends the text appended it; if it failed, it appended a prefix
 abbrev pub Writes : {X E : Type 0} → Result X E → List ℕ → List ℕ → List ℕ → Type 0
 Writes (Ok x) old new text = new ≡ old ++ text
 Writes (Err e) old new text = AppendsFront old new text

@@ -1,11 +1,11 @@
--- What stands behind the word that begins a verdict line.
+-- The operands of verdict lines.
 use Rattle.std.specs.Prelude.{ℕ, List, [], ◌∷◌, ◌++◌}
 use Rattle.std.specs.Fmt.{decimal}
 use Rattle.rp_language.specs.Grammar.{space}
 use Rattle.rp_model.specs.commands.Verdict.{Verdict, refused}
 use Rattle.rp_reports.specs.Text.{half_space_text, items_text, lot_text, refusal_text, slice_text}
 
--- the operands of a verdict, each behind a space
+-- the operands of a verdict, each after a space
 abbrev pub operands_text : Verdict → List ℕ
 operands_text (Verdict.pieces k) = space ∷ decimal k
 operands_text (Verdict.piece ks) = items_text decimal ks

@@ -14,11 +14,11 @@ use Rattle.rp_text.specs.Readers.{Taker, ◌>>=◌, gives, gives_some, kept_if, 
 unfoldable pub three_numbers : Taker (ℤ × ℤ × ℤ)
 three_numbers = the_word (codes "(") >>= λ _. number_before space >>= λ a. number_before space >>= λ b. number_before 41 >>= λ d. gives (a, b, d)
 
--- an edge, if it may be written
+-- the edge, if it is within its bounds
 abbrev pub written_edge : Trace → Option Trace
 written_edge t = kept_if (is_written_trace t) t
 
--- reads an edge that may be written
+-- reads an edge within its bounds
 unfoldable pub edge : Taker Trace
 edge = three_numbers >>= λ q. gives_some (written_edge (trace_of q.0 q.1 q.2))
 
@@ -26,26 +26,26 @@ edge = three_numbers >>= λ q. gives_some (written_edge (trace_of q.0 q.1 q.2))
 abbrev pub step_of : Trace → RationalPoint → RingStep
 step_of t p = record { edge = t; end = p }
 
--- reads a step: an edge, and its end behind a space
+-- reads a step: an edge, a space, and its end
 unfoldable pub step : Taker RingStep
 step = edge >>= λ t. spaced_item point >>= λ p. gives (step_of t p)
 
--- steps, if there are as many as a ring may have
+-- the steps, if there are 3 to 36
 abbrev pub if_ring : List RingStep → Option (List RingStep)
 if_ring steps = kept_if (is_three_to_36 (length steps)) steps
 
--- the steps of a ring, each behind a space, and nothing behind them
+-- reads the steps of a ring, each after a space, up to the end of the text
 abbrev pub ring_steps : List ℕ → Option (List RingStep)
 ring_steps line = option_and_then if_ring (items step 36 line)
 
--- multiples, if there are as many as a flat certificate may have
+-- the multiples, if there are 1 to 3
 abbrev pub if_flat : List Multiple → Option (List Multiple)
 if_flat terms = kept_if (is_one_to_three (length terms)) terms
 
--- the multiples of a flat certificate, each behind a space, and nothing behind them
+-- reads the multiples of a flat certificate, each after a space, up to the end of the text
 abbrev pub flat_terms : List ℕ → Option (List Multiple)
 flat_terms line = option_and_then if_flat (few_items term line)
 
--- the slice that a text spells, read from its front
+-- reads a slice, by the word that begins it
 unfoldable pub slice : List ℕ → Option Slice
 slice line = behind_or (codes "= ring") line (λ rest. option_map ring (ring_steps rest)) (behind_or (codes "= flat") line (λ rest. option_map flat (flat_terms rest)) None)

@@ -11,7 +11,7 @@ use itoa::Buffer;
 use rp_command::spelled;
 use std::alloc::AllocError;
 
-/// The greatest number of a line.
+/// The greatest number that a line can have.
 const MAX_LINE: i128 = 16777216;
 
 /// The echo of a line of a script.
@@ -19,7 +19,7 @@ const MAX_LINE: i128 = 16777216;
 pub struct Echo<'a> {
     /// The line's number.
     pub number: u32,
-    /// What is told of the line; nothing where it is too long.
+    /// The text of the line; empty if the line was too long.
     pub line: &'a [u8],
 }
 
@@ -37,7 +37,7 @@ impl<'a> WriteText for Echo<'a> {
     }
 }
 
-/// The number of a line that a word spells.
+/// Returns the line number that `word` spells: 1 to 16,777,216, without a sign or leading zeros. Otherwise `None`.
 fn line_number(word: &[u8]) -> Option<u32>
     ensures { result ≡ line_number word.now }
 {
@@ -49,18 +49,18 @@ fn line_number(word: &[u8]) -> Option<u32>
     }
 }
 
-/// The number of a line that a word spells, beside a place.
+/// Returns the line number that `word` spells, together with `place`. `None` iff it spells none.
 fn numbered(word: &[u8], place: Option<usize>) -> Option<(u32, Option<usize>)>
     ensures { result ≡ option_map (λ n. (n, place)) (line_number word.now) }
 {
     Some((line_number(word)?, place))
 }
 
-/// The number of an echo line, and the place in it at which the echoed text begins: no place where the number stands
-/// alone. The place is at most the length of the line, where the text is empty.
+/// Returns the number in an echo line, and the index at which the echoed text begins. The index is `None` if the line
+/// ends after the number. It is the length of the line if the echoed text is empty.
 ///
-/// `None` exactly where the line isn't `> `, a number from 1 to 16777216 without a sign or leading zeros, and then
-/// nothing, or one space and any text. Takes no memory.
+/// Returns `None` iff `line` is not spelled in this way: `> `, then a number from 1 to 16777216 without a sign or
+/// leading zeros, then nothing or one space and any text. Takes no memory.
 pub fn read_echo(line: &[u8]) -> Option<(u32, Option<usize>)>
     ensures read { option_map (echo_of line.now) result ≡ echo_read line.now }
     ensures within { IfSome result (λ r. IfSome r.1 (λ place. place ≤ length line.now)) }

@@ -1,5 +1,5 @@
-//! The texts of half-spaces that were written, so that one that comes again is copied: most of a report are the
-//! half-spaces of few planes.
+//! A cache of half-spaces' texts. Most of a report repeats the half-spaces of few planes; their texts are copied from
+//! here.
 ghost use Rattle.std.specs.Prelude.{◌≡◌};
 ghost use Rattle.rp_reports.specs.Text.{half_space_text};
 ghost use Rattle.rp_text.specs.Fronts.{Writes};
@@ -11,13 +11,13 @@ use rp_space::Half;
 use std::alloc::AllocError;
 use std::marker::Model;
 
-/// Room for the text of a half-space, in bytes.
+/// The most bytes of a text that is cached.
 const ROOM: usize = 56;
 
-/// How many half-spaces have a place.
+/// The number of entries of the cache.
 const PLACES: usize = 64;
 
-/// A half-space with its text, or with none yet.
+/// A half-space with its text; the text is empty if none is cached.
 #[derive(Drop)]
 struct HalfText {
     half: Half,
@@ -37,7 +37,7 @@ impl Model for HalfText {
 }
 
 impl Default for HalfText {
-    /// Some half-space without its text.
+    /// Returns a half-space without a text.
     fn default() -> HalfText {
         HalfText {
             half: Half::default(),
@@ -47,7 +47,7 @@ impl Default for HalfText {
 }
 
 impl HalfText {
-    /// Appends the text of a half-space, and keeps it.
+    /// Appends the text of `half` to `out`, and caches it.
     fn write(&mut self, half: &Half, out: &mut Vec<u8>) -> Result<(), AllocError>
         ensures { Writes result out.old.items out.new.items (half_space_text half.now) }
     {
@@ -57,7 +57,7 @@ impl HalfText {
         append(self.text.as_slice(), out)
     }
 
-    /// Appends the text of a half-space, and keeps it in place of another one's.
+    /// Appends the text of `half` to `out`, and caches it instead of the text that was cached.
     fn write_anew(&mut self, half: &Half, out: &mut Vec<u8>) -> Result<(), AllocError>
         ensures { Writes result out.old.items out.new.items (half_space_text half.now) }
     {
@@ -68,12 +68,12 @@ impl HalfText {
     }
 }
 
-/// A half-space with its text, if there is room for that.
+/// Returns `half` with its text `text`; with no text if it is longer than 56 bytes.
 fn kept(half: &Half, text: &[u8]) -> HalfText
     requires { text.now ≡ half_space_text half.now }
 {
     let mut kept = ArrayVec::new();
-    // Where it has no room, nothing is kept.
+    // A text without room is not cached; then it is written anew each time.
     let _ = kept.try_extend_from_slice(text);
     HalfText {
         half: *half,
@@ -81,14 +81,15 @@ fn kept(half: &Half, text: &[u8]) -> HalfText
     }
 }
 
-/// The texts of some half-spaces, each at the place that its coefficients tell: the last one that was written there.
+/// A cache of half-spaces' texts. The entry of a half-space is computed from its coefficients and has the last text
+/// that was written to it.
 #[derive(Drop)]
 pub struct HalfTexts {
     texts: ArrayVec<HalfText, PLACES>,
 }
 
 impl HalfTexts {
-    /// No text.
+    /// Returns the empty cache.
     pub fn new() -> HalfTexts {
         let mut texts = ArrayVec::new();
         for _ in 0..PLACES {
@@ -97,7 +98,7 @@ impl HalfTexts {
         HalfTexts { texts }
     }
 
-    /// Appends the text of a half-space.
+    /// Appends the text of `half` to `out`, and caches it.
     pub(crate) fn write(&mut self, half: &Half, out: &mut Vec<u8>) -> Result<(), AllocError>
         ensures { Writes result out.old.items out.new.items (half_space_text half.now) }
     {
@@ -108,7 +109,7 @@ impl HalfTexts {
     }
 }
 
-/// The place of a half-space.
+/// Returns the entry of a half-space in the cache.
 fn place_of(half: &Half) -> usize {
     let (a, b, c, d) = half.numbers();
     (a * 7 + b * 31 + c * 127 + d).rem_euclid(PLACES as i64) as usize

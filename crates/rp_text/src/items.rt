@@ -1,4 +1,4 @@
-//! Things that have a text, one behind the other.
+//! Writing a thing's text, and a list of things one after another.
 ghost use Rattle.std.specs.Prelude.{[], ◌∷◌, ◌++◌, ℕ, List};
 ghost use Rattle.rp_language.specs.Grammar.{space};
 ghost use Rattle.rp_reports.specs.Text.{items_text, line_end};
@@ -8,18 +8,20 @@ ghost use Rattle.rp_text.specs.LineTexts.{lines_text};
 use crate::pieces::{append, append_byte};
 use std::alloc::AllocError;
 
-/// What has a text of its own in a report: a line, or a part of one.
+/// A thing that has a text in a report: a line, or a part of a line.
 pub trait WriteText {
     ghost text: { Self → List ℕ };
 
     /// Appends the text to `out`.
     ///
-    /// After `AllocError` `out` has what it had and a front of that text.
+    /// # Errors
+    ///
+    /// `AllocError` if memory runs out. `out` then has what it had, and a prefix of the text.
     fn write_text(&self, out: &mut Vec<u8>) -> Result<(), AllocError>
         ensures { Writes result out.old.items out.new.items (text self.now) };
 }
 
-/// Appends a thing behind a space.
+/// Appends a space and the text of `item`.
 pub(crate) fn write_item<T: WriteText>(item: &T, out: &mut Vec<u8>) -> Result<(), AllocError>
     ensures { Writes result out.old.items out.new.items (space ∷ T.text item.now) }
 {
@@ -27,7 +29,7 @@ pub(crate) fn write_item<T: WriteText>(item: &T, out: &mut Vec<u8>) -> Result<()
     item.write_text(out)
 }
 
-/// Appends things, each behind a space.
+/// Appends the texts of `items`, each after a space.
 pub(crate) fn write_items<T: WriteText>(items: &[T], out: &mut Vec<u8>) -> Result<(), AllocError>
     ensures { Writes result out.old.items out.new.items (items_text T.text items.now) }
 {
@@ -39,7 +41,9 @@ pub(crate) fn write_items<T: WriteText>(items: &[T], out: &mut Vec<u8>) -> Resul
 
 /// Appends the text of `line` to `out`, with a line end.
 ///
-/// After `AllocError` `out` has what it had and a front of that text.
+/// # Errors
+///
+/// `AllocError` if memory runs out. `out` then has what it had, and a prefix of the text.
 pub fn write_line<T: WriteText>(line: &T, out: &mut Vec<u8>) -> Result<(), AllocError>
     ensures { Writes result out.old.items out.new.items (T.text line.now ++ line_end ∷ []) }
 {
@@ -47,7 +51,7 @@ pub fn write_line<T: WriteText>(line: &T, out: &mut Vec<u8>) -> Result<(), Alloc
     append_byte(b'\n', out)
 }
 
-/// Appends things, each on a line of its own.
+/// Appends the texts of `items`, each with a line end.
 pub(crate) fn write_lines<T: WriteText>(items: &[T], out: &mut Vec<u8>) -> Result<(), AllocError>
     ensures { Writes result out.old.items out.new.items (lines_text T.text items.now) }
 {
@@ -57,7 +61,7 @@ pub(crate) fn write_lines<T: WriteText>(items: &[T], out: &mut Vec<u8>) -> Resul
     Ok(())
 }
 
-/// Appends a word, and behind a space its operand.
+/// Appends `word`, a space and the text of `operand`.
 pub(crate) fn write_operand<T: WriteText>(
     word: &[u8],
     operand: &T,
@@ -69,7 +73,7 @@ pub(crate) fn write_operand<T: WriteText>(
     write_item(operand, out)
 }
 
-/// Appends a word, and its operands, each behind a space.
+/// Appends `word` and the texts of `operands`, each after a space.
 pub(crate) fn write_operands<T: WriteText>(
     word: &[u8],
     operands: &[T],

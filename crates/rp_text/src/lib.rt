@@ -2,9 +2,9 @@
 //! The text of answers in a report, and the lines of a report, read back.
 //!
 //! [`write_answer`] appends the text of an answer, byte for byte: its echo, its proof lines unless it is to be brief,
-//! and its verdict lines. [`write_line`] appends one of them, an [`Echo`] or a verdict, and [`write_proof`] a proof line.
-//! Where memory ran out, they append a front. A proof line, a line that shows a slice and an echo are read exactly where
-//! they are spelled so, and no memory is taken for it. Calls that answer `AllocError` do so only for want of memory.
+//! and its verdict lines. [`write_line`] appends one line, an [`Echo`] or a verdict, and [`write_proof`] a proof line.
+//! If memory runs out, they append a prefix. A proof line, a line that shows a slice and an echo are read iff they have
+//! their one spelling, and reading takes no memory. A call returns `AllocError` only if memory runs out.
 
 mod echo;
 mod half_texts;

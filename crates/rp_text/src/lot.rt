@@ -1,4 +1,4 @@
-//! The text of what is told of a lot.
+//! The text of an entry of the register.
 ghost use Rattle.rp_reports.specs.Text.{end_text, layer_text, origins_text};
 ghost use Rattle.rp_text.specs.Fronts.{Writes};
 
@@ -8,7 +8,7 @@ use rp_history::LotLine;
 use rp_lists::{Name, Names};
 use std::alloc::AllocError;
 
-/// Appends the end of a lot, or that it is live.
+/// Appends ` ended` and the line at which a lot ended, or ` live` if it has not ended.
 fn write_end(ended: Option<u32>, out: &mut Vec<u8>) -> Result<(), AllocError>
     ensures { Writes result out.old.items out.new.items (end_text ended) }
 {
@@ -18,7 +18,7 @@ fn write_end(ended: Option<u32>, out: &mut Vec<u8>) -> Result<(), AllocError>
     }
 }
 
-/// Appends the layer of a lot. The one that a script begins with is left out.
+/// Appends ` layer` and the layer of a lot. Appends nothing for the layer `base`, with which a script begins.
 fn write_layer(layer: &Name, out: &mut Vec<u8>) -> Result<(), AllocError>
     ensures { Writes result out.old.items out.new.items (layer_text layer.now) }
 {
@@ -28,7 +28,7 @@ fn write_layer(layer: &Name, out: &mut Vec<u8>) -> Result<(), AllocError>
     write_operand(b" layer", layer, out)
 }
 
-/// Appends the ids of the lots that a lot was made from, if there are any.
+/// Appends ` from` and the ids of the lots that a lot was made from. Appends nothing if there are none.
 fn write_origins(origins: &Names, out: &mut Vec<u8>) -> Result<(), AllocError>
     ensures { Writes result out.old.items out.new.items (origins_text origins.now.items) }
 {

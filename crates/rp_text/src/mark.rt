@@ -1,4 +1,4 @@
-//! The lines that mark what is of version 2, each with its line feed.
+//! The lines that mark scripts and reports of version 2, each with its line feed.
 
 /// The line that begins a script of version 2.
 pub const SCRIPT_MARK: &[u8] = b"rp 2\n";

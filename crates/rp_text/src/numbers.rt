@@ -10,7 +10,7 @@ use crate::pieces::{append, append_byte};
 use itoa::{Buffer, Integer};
 use std::alloc::AllocError;
 
-/// Appends a number.
+/// Appends the decimal digits of `number`, with a minus sign if it is negative.
 fn write_number<I: Integer>(number: I, out: &mut Vec<u8>) -> Result<(), AllocError>
     ensures { Writes result out.old.items out.new.items (I.text number) }
 {

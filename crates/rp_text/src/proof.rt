@@ -1,4 +1,4 @@
-//! The text of proof lines. The texts of their half-spaces are kept, since most come again.
+//! The text of proof lines. The texts of half-spaces are cached, since most occur again.
 ghost use Rattle.std.specs.Prelude.{[], ◌∷◌, ◌++◌, codes, map};
 ghost use Rattle.rp_language.specs.Grammar.{space};
 ghost use Rattle.rp_reports.specs.Text.{half_space_text, term_text, items_text, line_end, proof_text, proof_texts, text_of_lines};
@@ -13,7 +13,7 @@ use rp_cert::Proof;
 use rp_space::{Half, Term};
 use std::alloc::AllocError;
 
-/// Appends a multiple of a half-space.
+/// Appends a multiple of a half-space: the multiplier, `*` and the half-space.
 fn write_term(term: &Term, texts: &mut HalfTexts, out: &mut Vec<u8>) -> Result<(), AllocError>
     ensures { Writes result out.old.items out.new.items (term_text term.now) }
 {
@@ -22,7 +22,7 @@ fn write_term(term: &Term, texts: &mut HalfTexts, out: &mut Vec<u8>) -> Result<(
     texts.write(&term.half, out)
 }
 
-/// Appends a multiple of a half-space behind a space.
+/// Appends a space and a multiple of a half-space.
 fn write_spaced_term(
     term: &Term,
     texts: &mut HalfTexts,
@@ -34,7 +34,7 @@ fn write_spaced_term(
     write_term(term, texts, out)
 }
 
-/// Appends multiples of half-spaces, each behind a space.
+/// Appends multiples of half-spaces, each after a space.
 fn write_terms(terms: &[Term], texts: &mut HalfTexts, out: &mut Vec<u8>) -> Result<(), AllocError>
     ensures { Writes result out.old.items out.new.items (items_text term_text terms.now) }
 {
@@ -44,7 +44,7 @@ fn write_terms(terms: &[Term], texts: &mut HalfTexts, out: &mut Vec<u8>) -> Resu
     Ok(())
 }
 
-/// Appends a word, and multiples of half-spaces.
+/// Appends `word` and multiples of half-spaces, each after a space.
 fn write_word_terms(
     word: &[u8],
     terms: &[Term],
@@ -57,7 +57,7 @@ fn write_word_terms(
     write_terms(terms, texts, out)
 }
 
-/// Appends the proof line of a half-space that is dropped: the half-space, and multiples of others.
+/// Appends the proof line of a half-space that is dropped: `half`, and the multiples `terms` of others.
 fn write_dropped(
     half: &Half,
     terms: &[Term],
@@ -71,7 +71,7 @@ fn write_dropped(
     write_terms(terms, texts, out)
 }
 
-/// Appends the text of a proof line.
+/// Appends the text of a proof line, without a line end.
 fn write_proof_text(
     proof: &Proof,
     texts: &mut HalfTexts,
@@ -89,10 +89,12 @@ fn write_proof_text(
     }
 }
 
-/// Appends the line of `proof` to `out`, with a line end. A half-space that is among `texts` is copied from there, and
-/// others are kept there.
+/// Appends the line of `proof` to `out`, with a line end. The texts of its half-spaces are copied from the cache
+/// `texts`, and others are added to it.
 ///
-/// After `AllocError` `out` has what it had and a front of that text.
+/// # Errors
+///
+/// `AllocError` if memory runs out. `out` then has what it had, and a prefix of the text.
 pub fn write_proof(
     proof: &Proof,
     texts: &mut HalfTexts,
@@ -115,7 +117,7 @@ fn write_proofs(proofs: &[Proof], out: &mut Vec<u8>) -> Result<(), AllocError>
     Ok(())
 }
 
-/// Appends the proof lines that a report tells: none where it is brief.
+/// Appends the proof lines of an answer, each with a line end; none if the report is `brief`.
 pub(crate) fn write_told_proofs(
     proofs: &[Proof],
     brief: bool,

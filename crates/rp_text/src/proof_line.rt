@@ -1,4 +1,4 @@
-//! Proof lines, read.
+//! Reads proof lines.
 ghost use Rattle.std.specs.Prelude.{◌≡◌, option_map};
 ghost use Rattle.rp_geometry.specs.searches.ProofLine.{in_line, out_line, at_line, apart_line, box_line};
 ghost use Rattle.rp_reports.specs.ProofText.{proof_read};
@@ -9,21 +9,21 @@ use crate::readers::{behind, block, half_space, point, points, terms};
 use rp_cert::Proof;
 use rp_space::Point;
 
-/// What stands behind the word of points that show a member.
+/// Reads the points after `in`, which show a member: one to four.
 fn inside(line: &[u8]) -> Option<Proof>
     ensures { option_map line_of result ≡ option_map in_line (few_items point line.now) }
 {
     Some(Proof::In(points(line)?))
 }
 
-/// What stands behind the word of multiples that show that there is no member.
+/// Reads the terms after `out`, which show that there is no member: one to four.
 fn outside(line: &[u8]) -> Option<Proof>
     ensures { option_map line_of result ≡ option_map out_line (few_items term line.now) }
 {
     Some(Proof::Out(terms(line)?))
 }
 
-/// What stands behind the word of a point of a weak system.
+/// Reads the point after `at`, which is a point of a weak system.
 fn at(line: &[u8]) -> Option<Proof>
     ensures { option_map line_of result ≡ option_map at_line (ended (point line.now)) }
 {
@@ -33,7 +33,7 @@ fn at(line: &[u8]) -> Option<Proof>
     at_alone(point, rest)
 }
 
-/// A point of a weak system, if nothing stands behind it.
+/// Returns the proof that `point` is a point of a weak system; `None` if text follows it in `rest`.
 fn at_alone(point: Point, rest: &[u8]) -> Option<Proof>
     ensures { option_map line_of result ≡ option_map at_line (ended (Some (point, rest.now))) }
 {
@@ -44,14 +44,14 @@ fn at_alone(point: Point, rest: &[u8]) -> Option<Proof>
     }
 }
 
-/// What stands behind the word of multiples that show that a weak system has no point.
+/// Reads the terms after `apart`, which show that a weak system has no point: one to four.
 fn apart(line: &[u8]) -> Option<Proof>
     ensures { option_map line_of result ≡ option_map apart_line (few_items term line.now) }
 {
     Some(Proof::Apart(terms(line)?))
 }
 
-/// What stands behind the word of a half-space that is dropped.
+/// Reads the half-space after `drop`, and one to four terms.
 #[tactic(auto, unfolding(crate::specs::Readers::dropped))]
 fn dropped(line: &[u8]) -> Option<Proof>
     ensures { option_map line_of result ≡ dropped line.now }
@@ -62,14 +62,14 @@ fn dropped(line: &[u8]) -> Option<Proof>
     Some(Proof::Dropped(half, terms(line)?))
 }
 
-/// What stands behind the word of a least box.
+/// Reads the least box after `box`.
 fn bounds(line: &[u8]) -> Option<Proof>
     ensures { option_map line_of result ≡ option_map box_line (box_spelled line.now) }
 {
     Some(Proof::Bounds(block(line)?))
 }
 
-/// The proof line that a line spells, by its word.
+/// Reads a proof line, by the word that begins it.
 fn proof(line: &[u8]) -> Option<Proof>
     ensures { option_map line_of result ≡ proof line.now }
 {
@@ -94,12 +94,15 @@ fn proof(line: &[u8]) -> Option<Proof>
     None
 }
 
-/// The proof line that a line of a report spells, without its line end.
+/// Reads a proof line from `line`, a line of a report without its line end.
 ///
-/// `None` exactly where the line is not the one spelling of a proof line that keeps its bounds: 1 to 4 points or
-/// multiples, half-spaces and points in lowest terms and within the bounds of their kinds, multipliers from 1 to 2^75 -
-/// 1, and boxes with numbers from -16777216 to 16777216. Takes no memory, and reads each byte a few times at most,
-/// whatever the line.
+/// Returns `None` iff `line` is not the one spelling of a proof line within its bounds:
+///
+/// * 1 to 4 points or terms, each multiplier from 1 to 2^75 - 1;
+/// * half-spaces and points in lowest terms and within the bounds of their kinds;
+/// * boxes with numbers from -16777216 to 16777216.
+///
+/// Takes no memory, and reads each byte a few times at most, for any line.
 pub fn read_proof(line: &[u8]) -> Option<Proof>
     ensures { option_map line_of result ≡ proof_read line.now }
 {

@@ -1,5 +1,5 @@
-//! Reading from the front of a text: a value, and what stands behind it.
-//! Each reader takes exactly one spelling, so nothing has to be compared with what a value would be written as.
+//! Readers of the front of a text. Each returns a value and the rest of the text.
+//! Each reader accepts exactly one spelling, so no value has to be written again and compared.
 ghost use Rattle.std.specs.Prelude.{◌≡◌, ◌==◌, ◌<◌, option_map, ℕ, List, length};
 ghost use Rattle.std.specs.List.{position};
 ghost use denote.Ref.{Bor};
@@ -10,7 +10,7 @@ ghost use Rattle.rp_text.specs.Readers.{behind, kept_if, short_number, number_be
 use rp_command::spelled;
 use rp_space::{Half, Inside, IntBox, Outside, Point, Term, is_multiplier};
 
-/// The size at which numbers that words spell are held. No number of a proof line comes near it.
+/// The bound of the size of numbers that are read, 2^120. Every number of a proof line is far below.
 const HELD: u128 = 1329227995784915872903807060280344576;
 
 /// The greatest size of the offset of a half-space, which is the greatest of its numbers.
@@ -22,21 +22,21 @@ const MAX_SIDE: i128 = 16777216;
 /// The most points or terms of a proof line.
 const MAX_ITEMS: usize = 4;
 
-/// What stands behind a word.
+/// Returns the rest of `line` after `word`; `None` iff `line` does not begin with `word`.
 pub(crate) fn behind<'a>(word: &[u8], line: &'a [u8]) -> Option<&'a [u8]>
     ensures { option_map (λ (rest : Bor (List ℕ)). rest.now) result ≡ behind word.now line.now }
 {
     line.strip_prefix(word)
 }
 
-/// The place of the first such byte.
+/// Returns the index of the first byte `mark` in `line`; `None` iff it is not there.
 pub(crate) fn place_of(mark: u8, line: &[u8]) -> Option<usize>
     ensures { result ≡ position (λ b. b == mark) line.now }
 {
     line.iter().position(|byte| *byte == mark)
 }
 
-/// The number that a word spells, if it is below `HELD` in size.
+/// Returns the whole number that `word` spells; `None` if its size is 2^120 or more, or if it spells none.
 fn short_number(word: &[u8]) -> Option<i128>
     ensures { result ≡ short_number word.now }
 {
@@ -48,7 +48,7 @@ fn short_number(word: &[u8]) -> Option<i128>
     }
 }
 
-/// A number and the first such byte, which ends it.
+/// Reads a number that ends before the first byte `mark`. Returns it with the text after `mark`.
 #[tactic(auto, unfolding(crate::specs::Readers::number_before))]
 pub(crate) fn number_before(mark: u8, line: &[u8]) -> Option<(i128, &[u8])>
     ensures { option_map front result ≡ number_before mark line.now }
@@ -58,7 +58,7 @@ pub(crate) fn number_before(mark: u8, line: &[u8]) -> Option<(i128, &[u8])>
     Some((v, &line[end + 1..]))
 }
 
-/// Four numbers in parentheses, with one space between each two.
+/// Reads four numbers in parentheses, with one space between each two.
 #[tactic(auto, unfolding(crate::specs::Readers::four_numbers))]
 fn four_numbers(line: &[u8]) -> Option<((i128, i128, i128, i128), &[u8])>
     ensures { option_map front result ≡ four_numbers line.now }
@@ -71,7 +71,7 @@ fn four_numbers(line: &[u8]) -> Option<((i128, i128, i128, i128), &[u8])>
     Some(((x, y, z, w), line))
 }
 
-/// The point of four numbers, if they are in lowest terms and keep their bounds.
+/// Returns the point of four numbers; `None` iff they are not in lowest terms or exceed their bounds.
 fn written_point(x: i128, y: i128, z: i128, w: i128) -> Option<Point>
     ensures { result ≡ written_point (point_of x y z w) }
 {
@@ -85,7 +85,7 @@ fn written_point(x: i128, y: i128, z: i128, w: i128) -> Option<Point>
     }
 }
 
-/// A number, if it is at most the greatest offset of a half-space in size.
+/// Returns `v`; `None` iff its size exceeds 844424930131968, the bound of a half-space's offset.
 fn short(v: i128) -> Option<i64>
     ensures { result ≡ kept_if (is_within_bound offset_bound v) v }
 {
@@ -96,7 +96,7 @@ fn short(v: i128) -> Option<i64>
     }
 }
 
-/// The half-space of four short numbers, if they are in lowest terms and keep their bounds.
+/// Returns the half-space of four numbers; `None` iff they are not in lowest terms or exceed their bounds.
 fn short_half(a: i64, b: i64, c: i64, d: i64) -> Option<Half>
     ensures { result ≡ written_half_space (half_space_of a b c d) }
 {
@@ -110,14 +110,14 @@ fn short_half(a: i64, b: i64, c: i64, d: i64) -> Option<Half>
     }
 }
 
-/// The half-space of four numbers, if they are in lowest terms and keep their bounds.
+/// Returns the half-space of four numbers; `None` iff they are not in lowest terms or exceed their bounds.
 fn written_half(a: i128, b: i128, c: i128, d: i128) -> Option<Half>
     ensures { result ≡ written_half_space (half_space_of a b c d) }
 {
     short_half(short(a)?, short(b)?, short(c)?, short(d)?)
 }
 
-/// A point.
+/// Reads a point.
 #[tactic(auto, unfolding(crate::specs::Readers::point))]
 pub(crate) fn point(line: &[u8]) -> Option<(Point, &[u8])>
     ensures { option_map front result ≡ point line.now }
@@ -127,7 +127,7 @@ pub(crate) fn point(line: &[u8]) -> Option<(Point, &[u8])>
     Some((point, line))
 }
 
-/// A half-space.
+/// Reads a half-space.
 #[tactic(auto, unfolding(crate::specs::Readers::half_space))]
 pub(crate) fn half_space(line: &[u8]) -> Option<(Half, &[u8])>
     ensures { option_map front result ≡ half_space line.now }
@@ -137,7 +137,7 @@ pub(crate) fn half_space(line: &[u8]) -> Option<(Half, &[u8])>
     Some((half, line))
 }
 
-/// A multiple of a half-space.
+/// Reads a multiple of a half-space: a multiplier, `*` and the half-space.
 #[tactic(auto, unfolding(crate::specs::Readers::term))]
 fn term(line: &[u8]) -> Option<(Term, &[u8])>
     ensures { option_map front result ≡ term line.now }
@@ -153,14 +153,14 @@ fn term(line: &[u8]) -> Option<(Term, &[u8])>
     }
 }
 
-/// A point behind a space.
+/// Reads a space and a point.
 pub(crate) fn spaced_point(line: &[u8]) -> Option<(Point, &[u8])>
     ensures { option_map front result ≡ spaced_item point line.now }
 {
     point(behind(b" ", line)?)
 }
 
-/// Puts the point behind a space to the end of the points, and gives what stands behind it.
+/// Reads a space and a point, and adds the point to `points`. Returns the rest of `line`.
 fn next_point<'a>(points: &mut Inside, line: &'a [u8]) -> Option<&'a [u8]>
     requires { length points.old < 4 }
     ensures { option_map (λ rest. (points.new, rest.now)) result ≡ option_map (with_one_more points.old) (spaced_item point line.now) }
@@ -172,7 +172,7 @@ fn next_point<'a>(points: &mut Inside, line: &'a [u8]) -> Option<&'a [u8]>
     Some(rest)
 }
 
-/// One to four points, each behind a space, and nothing behind them.
+/// Reads one to four points, each after a space, up to the end of `line`.
 pub(crate) fn points(line: &[u8]) -> Option<Inside>
     ensures { result ≡ few_items point line.now }
 {
@@ -191,14 +191,14 @@ pub(crate) fn points(line: &[u8]) -> Option<Inside>
     }
 }
 
-/// A multiple behind a space.
+/// Reads a space and a multiple of a half-space.
 fn spaced_term(line: &[u8]) -> Option<(Term, &[u8])>
     ensures { option_map front result ≡ spaced_item term line.now }
 {
     term(behind(b" ", line)?)
 }
 
-/// Puts the multiple behind a space to the end of the multiples, and gives what stands behind it.
+/// Reads a space and a multiple of a half-space, and adds the multiple to `terms`. Returns the rest of `line`.
 fn next_term<'a>(terms: &mut Outside, line: &'a [u8]) -> Option<&'a [u8]>
     requires { length terms.old < 4 }
     ensures { option_map (λ rest. (terms.new, rest.now)) result ≡ option_map (with_one_more terms.old) (spaced_item term line.now) }
@@ -210,7 +210,7 @@ fn next_term<'a>(terms: &mut Outside, line: &'a [u8]) -> Option<&'a [u8]>
     Some(rest)
 }
 
-/// One to four multiples, each behind a space, and nothing behind them.
+/// Reads one to four multiples of half-spaces, each after a space, up to the end of `line`.
 pub(crate) fn terms(line: &[u8]) -> Option<Outside>
     ensures { result ≡ few_items term line.now }
 {
@@ -229,7 +229,7 @@ pub(crate) fn terms(line: &[u8]) -> Option<Outside>
     }
 }
 
-/// A number of a box, if it keeps its bounds.
+/// Returns `v` as a number of a box; `None` iff it is not from -16777216 to 16777216.
 pub(crate) fn side_of(v: i128) -> Option<i32>
     ensures { result ≡ side_of v }
 {
@@ -240,7 +240,7 @@ pub(crate) fn side_of(v: i128) -> Option<i32>
     }
 }
 
-/// A number of a box, and the space behind it.
+/// Reads a number of a box and the space after it.
 #[tactic(auto, unfolding(crate::specs::Readers::side))]
 fn side(line: &[u8]) -> Option<(i32, &[u8])>
     ensures { option_map front result ≡ side line.now }
@@ -249,7 +249,7 @@ fn side(line: &[u8]) -> Option<(i32, &[u8])>
     Some((side_of(v)?, line))
 }
 
-/// The last number of a box.
+/// Reads the last number of a box, which ends with `line`.
 #[tactic(auto, unfolding(crate::specs::Readers::last_side))]
 fn last_side(line: &[u8]) -> Option<i32>
     ensures { result ≡ last_side line.now }
@@ -257,7 +257,7 @@ fn last_side(line: &[u8]) -> Option<i32>
     side_of(short_number(line)?)
 }
 
-/// The six numbers of a box, and nothing behind them.
+/// Reads the six numbers of a box, up to the end of `line`.
 #[tactic(auto, unfolding(crate::specs::Readers::box_spelled))]
 pub(crate) fn block(line: &[u8]) -> Option<IntBox>
     ensures { option_map integer_box result ≡ box_spelled line.now }

@@ -1,4 +1,4 @@
-//! Lines that show slices, read.
+//! Reads lines that show slices.
 ghost use Rattle.std.specs.Prelude.{◌≡◌, ◌<◌, option_map, length};
 ghost use Rattle.rp_geometry.specs.Geometry.{is_within_bound};
 ghost use Rattle.rp_geometry.specs.sections.Trace.{trace_of};
@@ -19,7 +19,7 @@ const MAX_EDGE_OFFSET: i128 = 1125899906842624;
 /// The most steps of a ring.
 const MAX_STEPS: usize = 36;
 
-/// Three numbers in parentheses, with one space between each two.
+/// Reads three numbers in parentheses, with one space between each two.
 #[tactic(auto, unfolding(crate::specs::SliceReaders::three_numbers))]
 fn three_numbers(line: &[u8]) -> Option<((i128, i128, i128), &[u8])>
     ensures { option_map front result ≡ three_numbers line.now }
@@ -31,7 +31,7 @@ fn three_numbers(line: &[u8]) -> Option<((i128, i128, i128), &[u8])>
     Some(((a, b, d), line))
 }
 
-/// The offset of an edge, if it keeps its bounds.
+/// Returns `v` as the offset of an edge; `None` iff its size exceeds 2^50.
 fn edge_offset(v: i128) -> Option<i64>
     ensures { result ≡ kept_if (is_within_bound trace_bound v) v }
 {
@@ -42,7 +42,7 @@ fn edge_offset(v: i128) -> Option<i64>
     }
 }
 
-/// The edge of three numbers, if they keep their bounds.
+/// Returns the edge of three numbers; `None` iff one exceeds its bound.
 fn written_edge(a: i128, b: i128, d: i128) -> Option<Edge>
     ensures { result ≡ written_edge (trace_of a b d) }
 {
@@ -52,7 +52,7 @@ fn written_edge(a: i128, b: i128, d: i128) -> Option<Edge>
     Some(Edge { a, b, d })
 }
 
-/// An edge.
+/// Reads an edge.
 #[tactic(auto, unfolding(crate::specs::SliceReaders::edge))]
 fn edge(line: &[u8]) -> Option<(Edge, &[u8])>
     ensures { option_map front result ≡ edge line.now }
@@ -62,7 +62,7 @@ fn edge(line: &[u8]) -> Option<(Edge, &[u8])>
     Some((edge, line))
 }
 
-/// A step of a ring.
+/// Reads a step of a ring: an edge, a space and the point where it ends.
 #[tactic(auto, unfolding(crate::specs::SliceReaders::step))]
 fn step(line: &[u8]) -> Option<(RingStep, &[u8])>
     ensures { option_map front result ≡ step line.now }
@@ -76,14 +76,14 @@ fn step(line: &[u8]) -> Option<(RingStep, &[u8])>
     Some((RingStep { edge, end }, line))
 }
 
-/// A step behind a space.
+/// Reads a space and a step of a ring.
 fn spaced_step(line: &[u8]) -> Option<(RingStep, &[u8])>
     ensures { option_map front result ≡ spaced_item step line.now }
 {
     step(behind(b" ", line)?)
 }
 
-/// Puts the step behind a space to the end of the steps, and gives what stands behind it.
+/// Reads a space and a step, and adds the step to `steps`. Returns the rest of `line`.
 fn next_step<'a>(steps: &mut RingSteps, line: &'a [u8]) -> Option<&'a [u8]>
     requires { length steps.old < 36 }
     ensures { option_map (λ rest. (steps.new, rest.now)) result ≡ option_map (with_one_more steps.old) (spaced_item step line.now) }
@@ -95,7 +95,7 @@ fn next_step<'a>(steps: &mut RingSteps, line: &'a [u8]) -> Option<&'a [u8]>
     Some(rest)
 }
 
-/// At most 36 steps, each behind a space, and nothing behind them.
+/// Reads at most 36 steps, each after a space, up to the end of `line`.
 fn all_steps(line: &[u8]) -> Option<RingSteps>
     ensures { result ≡ items step 36 line.now }
 {
@@ -110,14 +110,14 @@ fn all_steps(line: &[u8]) -> Option<RingSteps>
     Some(steps)
 }
 
-/// Whether so many steps may make a ring.
+/// Returns whether a ring may have `n` steps: 3 to 36.
 fn is_three_to_36(n: usize) -> bool
     ensures { result ≡ is_three_to_36 n }
 {
     3 <= n && n <= 36
 }
 
-/// The steps of a ring.
+/// Reads the 3 to 36 steps of a ring, up to the end of `line`.
 fn ring_steps(line: &[u8]) -> Option<RingSteps>
     ensures { result ≡ ring_steps line.now }
 {
@@ -131,14 +131,14 @@ fn ring_steps(line: &[u8]) -> Option<RingSteps>
     }
 }
 
-/// Whether so many terms may make a flat certificate.
+/// Returns whether a flat certificate may have `n` terms: 1 to 3.
 fn is_one_to_three(n: usize) -> bool
     ensures { result ≡ is_one_to_three n }
 {
     1 <= n && n <= 3
 }
 
-/// The terms of a flat certificate.
+/// Reads the 1 to 3 terms of a flat certificate, up to the end of `line`.
 fn flat_terms(line: &[u8]) -> Option<Outside>
     ensures { result ≡ flat_terms line.now }
 {
@@ -152,21 +152,21 @@ fn flat_terms(line: &[u8]) -> Option<Outside>
     }
 }
 
-/// What stands behind the word of a ring.
+/// Reads the steps after `ring`.
 fn ring(line: &[u8]) -> Option<Slice>
     ensures { option_map slice_shown result ≡ option_map ring (ring_steps line.now) }
 {
     Some(Slice::Ring(ring_steps(line)?))
 }
 
-/// What stands behind the word of a flat certificate.
+/// Reads the terms after `flat`.
 fn flat(line: &[u8]) -> Option<Slice>
     ensures { option_map slice_shown result ≡ option_map flat (flat_terms line.now) }
 {
     Some(Slice::Flat(flat_terms(line)?))
 }
 
-/// The slice that a line spells, by its word.
+/// Reads a slice from a verdict line, by the word that begins it.
 fn slice(line: &[u8]) -> Option<Slice>
     ensures { option_map slice_shown result ≡ slice line.now }
 {
@@ -179,12 +179,15 @@ fn slice(line: &[u8]) -> Option<Slice>
     None
 }
 
-/// The slice that a verdict line spells, without its line end.
+/// Reads a slice from `line`, a verdict line without its line end.
 ///
-/// `None` exactly where the line is not the one spelling of a slice that keeps its bounds: a ring of 3 to 36 steps,
-/// edges with numbers up to 16777216 and an offset up to 2^50, and ends in lowest terms and within the bounds of
-/// points; or a flat certificate of 1 to 3 multiples. Takes no memory, and reads each byte a few times at most,
-/// whatever the line.
+/// Returns `None` iff `line` is not the one spelling of a slice within its bounds:
+///
+/// * a ring of 3 to 36 steps; edges with numbers up to 16777216 and an offset up to 2^50; ends in lowest terms and
+///   within the bounds of points;
+/// * a flat certificate of 1 to 3 multiples of half-spaces.
+///
+/// Takes no memory, and reads each byte a few times at most, for any line.
 pub fn read_slice(line: &[u8]) -> Option<Slice>
     ensures { option_map slice_shown result ≡ slice_read line.now }
 {

@@ -1,4 +1,4 @@
-//! The text of an answer, whole.
+//! The whole text of an answer.
 ghost use Rattle.rp_reports.specs.Text.{text_of_lines, answer_lines};
 ghost use Rattle.rp_text.specs.Fronts.{Writes};
 ghost use Rattle.rp_answer.specs.Views.{answer_of};
@@ -9,10 +9,12 @@ use crate::proof::write_told_proofs;
 use rp_answer::Answer;
 use std::alloc::AllocError;
 
-/// Appends the report lines of an answer to `out`, each with its line end: the echo, then the proof lines, then the
-/// verdicts. Where it is to be `brief`, the proof lines are left out. An answer without verdicts has no text.
+/// Appends the report lines of `a` to `out`, each with its line end: the echo, the proof lines and the verdicts. If
+/// `brief`, the proof lines are left out. An answer without verdicts has no text.
 ///
-/// After `AllocError` `out` has what it had and a front of that text.
+/// # Errors
+///
+/// `AllocError` if memory runs out. `out` then has what it had, and a prefix of the text.
 pub fn write_answer(a: &Answer, brief: bool, out: &mut Vec<u8>) -> Result<(), AllocError>
     ensures { Writes result out.old.items out.new.items (text_of_lines (answer_lines brief (answer_of a.now))) }
 {

@@ -16,7 +16,7 @@ use rp_command::Why;
 use rp_lists::Name;
 use std::alloc::AllocError;
 
-/// The word of a fault of a line.
+/// Returns the word of a fault of a line.
 fn fault_word(why: Why) -> &'static [u8]
     ensures { result.now ≡ fault_word (fault_of why) }
 {
@@ -29,7 +29,7 @@ fn fault_word(why: Why) -> &'static [u8]
     }
 }
 
-/// Appends that two children share a point, by their numbers.
+/// Appends that the children with the numbers `first` and `second` share a point.
 fn write_children(first: u32, second: u32, out: &mut Vec<u8>) -> Result<(), AllocError>
     ensures { Writes result out.old.items out.new.items (refusal_text (children_overlap first second)) }
 {
@@ -62,7 +62,7 @@ impl WriteText for Refusal {
     }
 }
 
-/// The sign and the word that begin the line of `verdict`; the sign alone where there is no word.
+/// Returns the sign and the word that begin the line of `verdict`; only the sign if the operands begin with a word.
 fn verdict_word(verdict: &Verdict) -> &'static [u8]
     ensures { verdict_text (verdict_of verdict.now) ≡ result.now ++ operands_text (verdict_of verdict.now) }
 {
@@ -98,7 +98,7 @@ fn verdict_word(verdict: &Verdict) -> &'static [u8]
     }
 }
 
-/// Appends how many steps a parcel is away, and its name, each behind a space.
+/// Appends ` `, the number of steps to a parcel, another ` ` and the parcel's name.
 fn write_level(steps: u32, name: &Name, out: &mut Vec<u8>) -> Result<(), AllocError>
     ensures { Writes result out.old.items out.new.items ((space ∷ decimal steps) ++ space ∷ name.now) }
 {
@@ -106,7 +106,7 @@ fn write_level(steps: u32, name: &Name, out: &mut Vec<u8>) -> Result<(), AllocEr
     write_item(name, out)
 }
 
-/// Appends the operands of `verdict` to `out`, each behind a space.
+/// Appends the operands of `verdict` to `out`, each after a space.
 fn write_verdict_operands(verdict: &Verdict, out: &mut Vec<u8>) -> Result<(), AllocError>
     ensures { Writes result out.old.items out.new.items (operands_text (verdict_of verdict.now)) }
 {
@@ -151,9 +151,11 @@ impl WriteText for Verdict {
     }
 }
 
-/// Appends the text of the line of `verdict` to `out`, without a line end.
+/// Appends the line of `verdict` to `out`, without a line end.
 ///
-/// After `AllocError` `out` has what it had and a front of that text.
+/// # Errors
+///
+/// `AllocError` if memory runs out. `out` then has what it had, and a prefix of the text.
 pub fn write_verdict(verdict: &Verdict, out: &mut Vec<u8>) -> Result<(), AllocError>
     ensures { Writes result out.old.items out.new.items (verdict_text (verdict_of verdict.now)) }
 {

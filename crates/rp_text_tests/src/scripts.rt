@@ -1,4 +1,4 @@
-//! What is put of scripts that are spelled, upgraded and made, and which words name a task.
+//! Tests of scripts that are spelled, upgraded and made, and of the words that name a task.
 use rp_io::QuietSink;
 use rp_scripts::make::make;
 use rp_scripts::spell::spell;
@@ -7,7 +7,7 @@ use rp_scripts::{Building, MadeTask, Task, listed_task};
 use std::alloc::Global;
 use std::process::Abort;
 
-/// A sink with room for a short script.
+/// Returns a sink with room for a short script.
 fn sheet(rt: &impl Abort, alloc: Global) -> QuietSink {
     QuietSink::new(alloc, 1000).expect(rt, "no memory")
 }

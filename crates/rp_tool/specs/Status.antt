@@ -1,4 +1,4 @@
--- Which tasks read an input, and what a status says of their output.
+-- The tasks that read an input, and the meaning of a status for their output.
 use Rattle.std.specs.Prelude.{◌≡◌, ◌↔◌, ℕ, Bool, true, false, List, ◌++◌, Option, Some, None, Result, Ok, Err}
 use Rattle.rp_io.specs.Bytes.{Appends, AppendsPrefix}
 use Rattle.rp_io.specs.declared.intake.IntakeFault.{IntakeFault}
@@ -19,7 +19,7 @@ reads_task upgrade_script = true
 reads_task (make_script n seed) = false
 reads_task (try_script n seed) = false
 
--- the task is there and reads its input
+-- there is a task, and it reads its input
 abbrev pub reads_if_listed : Option ModelTask → Bool
 reads_if_listed None = false
 reads_if_listed (Some t) = reads_task t
@@ -38,17 +38,17 @@ most_bytes_of upgrade_script = most_script_bytes
 most_bytes_of (make_script n seed) = most_script_bytes
 most_bytes_of (try_script n seed) = most_script_bytes
 
--- the most bytes of the input of a task, if it is there
+-- the most bytes of the input of a task; of a script if there is no task
 abbrev pub most_if_listed : Option ModelTask → ℕ
 most_if_listed None = most_script_bytes
 most_if_listed (Some t) = most_bytes_of t
 
--- the most bytes of the input for the words
+-- the most bytes of the input for the words of a command line
 abbrev pub most_input_bytes : List (List ℕ) → ℕ
 most_input_bytes words = most_if_listed (task_of words)
 
--- the words name a task, the whole output of that task on the input came to the end of what the sink said,
--- and the status is 1 exactly where something was refused
+-- the words name a task, and its whole output on the input was appended to the output of the sink,
+-- and the status is 1 iff something was refused
 pub record IsOutputOf (words : List (List ℕ)) (input : List ℕ) (old new : Option (List ℕ)) (status : ℕ) : Type 0 where
   pub task : ModelTask
   pub lines : List (List ℕ)
@@ -57,7 +57,7 @@ pub record IsOutputOf (words : List (List ℕ)) (input : List ℕ) (old new : Op
   pub written : Appends old new (text_of_lines lines)
   pub refused : (status ≡ 1) ↔ IsRefused task input lines
 
--- the same of a sink whose bytes are known: those before, followed by the text of the whole output
+-- the words name a task, the bytes of the sink are those before and the text of its whole output, and the status is 1 iff something was refused
 pub record HasWritten (words : List (List ℕ)) (input old new : List ℕ) (status : ℕ) : Type 0 where
   pub task : ModelTask
   pub lines : List (List ℕ)
@@ -66,7 +66,7 @@ pub record HasWritten (words : List (List ℕ)) (input old new : List ℕ) (stat
   pub written : new ≡ old ++ text_of_lines lines
   pub refused : (status ≡ 1) ↔ IsRefused task input lines
 
--- the words name a task, and a front of the whole output of that task on the input came to the end of what the sink said
+-- the words name a task, and a prefix of its whole output on the input was appended to the output of the sink
 pub record IsFrontOf (words : List (List ℕ)) (input : List ℕ) (old new : Option (List ℕ)) : Type 0 where
   pub task : ModelTask
   pub lines : List (List ℕ)
@@ -74,23 +74,23 @@ pub record IsFrontOf (words : List (List ℕ)) (input : List ℕ) (old new : Opt
   pub output : IsOutput task input lines
   pub written : AppendsPrefix old new (text_of_lines lines)
 
--- the status where the input was not read whole
+-- the status if the input was not read to its end
 abbrev pub status_of_intake : IntakeFault → ℕ
 status_of_intake Failed = READ_FAILED
 status_of_intake TooLong = TOO_LONG
 status_of_intake (Memory e) = OUT_OF_MEMORY
 
--- the status where an output was not put whole
+-- the status if an output was not put whole
 abbrev pub status_of_fault : OutputFault → ℕ
 status_of_fault Put = PUT_FAILED
 status_of_fault (OutputMemory e) = OUT_OF_MEMORY
 
--- the status of an output in which nothing can be refused
+-- the status of an output of a task that refuses nothing
 abbrev pub status_of_made : Result (Unit {0}) OutputFault → ℕ
 status_of_made (Ok done) = DONE
 status_of_made (Err fault) = status_of_fault fault
 
--- the status of an output, which is that of a refusal where it says that something was refused
+-- the status of an output: that of a refusal if something was refused
 abbrev pub status_of_output : Result Bool OutputFault → ℕ
 status_of_output (Ok true) = REFUSED
 status_of_output (Ok false) = DONE

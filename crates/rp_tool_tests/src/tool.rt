@@ -1,4 +1,4 @@
-//! The worked rows of the report, and what the tool answers where it does not come to the end.
+//! The worked rows of the report, and the statuses of the tool when it does not finish.
 ghost use Rattle.std.specs.Prelude.{◌≡◌, ◌≢◌, ◌≤◌, ◌<◌, ◌⊎◌, false, [], map, length, IsTrue, None, string_bytes};
 ghost use Rattle.rp_io.specs.Faults.{last_count};
 ghost use Rattle.rp_reports.specs.Output.{check_report, most_report_bytes, task_of};
@@ -12,7 +12,7 @@ use std::alloc::Global;
 use std::process::Abort;
 use std::thread::Threads;
 
-/// Words of a command line.
+/// Returns the words of a command line.
 fn words_of(rt: &impl Abort, alloc: Global, texts: &[&str]) -> Vec<String> {
     let mut words = Vec::new(alloc);
     for text in texts {
@@ -23,9 +23,12 @@ fn words_of(rt: &impl Abort, alloc: Global, texts: &[&str]) -> Vec<String> {
     words
 }
 
-/// The status of the tool over a source and a sink that never fail: neither a read nor a put is to blame. With status 0 or
-/// 1 the sink has the whole output behind what it had, as long as its room was not passed; for listed words and an input
-/// within its limit nothing but want of memory stands in the way; and `check` accepts what was written for a script.
+/// Returns the status of the tool over a source and a sink that never fail.
+///
+/// * The status is never that of a failed read or put.
+/// * With status 0 or 1 the sink has the whole output after what it had, if no more came than it has room for.
+/// * For known words and an input within its limit, only want of memory gives another status than 0 or 1.
+/// * `check` accepts the report written for a script, unless memory runs out.
 fn quiet_status<R: Threads + Sync>(
     rt: &R,
     alloc: Global,
@@ -46,8 +49,8 @@ fn quiet_status<R: Threads + Sync>(
     tool(rt, alloc, words, source, sink)
 }
 
-/// The contract of `tool` over a source and a sink in memory, whose faults are listed: where none came the output is
-/// whole, and the source was read to its end or not at all.
+/// Returns the status of the tool over a source and a sink in memory with listed faults. With status 0 or 1 the output
+/// is whole, and the source was read to its end, or not at all if the words need no input.
 fn memory_status<R: Threads + Sync>(
     rt: &R,
     alloc: Global,
@@ -67,7 +70,7 @@ fn memory_status<R: Threads + Sync>(
     tool(rt, alloc, words, source, sink)
 }
 
-/// The status and the output of the tool on an input of one piece, with room for 10,000 bytes of output.
+/// Returns the status and the output of the tool on an input of one piece, with room for 10,000 bytes of output.
 fn run_on<R: Abort + Threads + Sync>(
     rt: &R,
     alloc: Global,
@@ -220,7 +223,7 @@ fn stops_where_a_read_or_a_put_fails(rt: HostRuntime) {
     }
 }
 
-/// The status of the tool over a sink whose put of this number fails, counted from 1.
+/// Returns the status of the tool over a sink whose put of the given number fails, counted from 1.
 fn status_where_a_put_fails<R: Abort + Threads + Sync>(
     rt: &R,
     alloc: Global,

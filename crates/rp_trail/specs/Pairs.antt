@@ -1,4 +1,4 @@
--- How two parts are tested together, and which pairs of two lists are.
+-- The test of two parts together, and the choice of pairs of two lists.
 use Rattle.std.specs.Prelude.{Bool, true, false, List}
 use Rattle.rp_geometry.specs.Geometry.{HalfSpace}
 use Rattle.rp_geometry.specs.sets.Shape.{Part}
@@ -8,7 +8,7 @@ use Rattle.rp_reports.specs.Check.{Trail, follow_strict, follow_weak, line_teste
 use Rattle.rp_trail.specs.declared.meeting.Meeting.{Meeting}
 use Rattle.rp_trail.specs.declared.meeting.Meeting.TheVariants.{Common, Touch}
 
--- whether the boxes of two parts let them meet
+-- the boxes of two parts let them meet
 abbrev pub may_meet_by : Meeting → Part → Part → Bool
 may_meet_by Common = near_pair
 may_meet_by Touch = touching_pair
@@ -18,22 +18,22 @@ abbrev pub test_by : Meeting → List HalfSpace → Walk Trail Bool
 test_by Common = follow_strict
 test_by Touch = follow_weak
 
--- the pairs that are tested: those that may meet alone, or every pair
+-- the choice of pairs for a test: those that may meet, or every pair
 abbrev pub chosen_pair : Bool → (Part → Part → Bool) → Part → Part → Bool
 chosen_pair true may_meet = may_meet
 chosen_pair false may_meet = every_pair
 
--- whether two lists share a member, by the pairs whose boxes meet alone, or by all pairs
+-- whether two lists share a member: by the pairs whose boxes meet, or by all pairs
 abbrev pub common_by : Bool → List Part → List Part → Walk Trail Bool
 common_by true ps qs = common_nearby line_tester ps qs
 common_by false ps qs = common_in_full line_tester ps qs
 
--- whether two lists are in contact, by the pairs whose closed boxes meet alone, or by all pairs
+-- whether two lists are in contact: by the pairs whose closed boxes meet, or by all pairs
 abbrev pub touch_by : Bool → List Part → List Part → Walk Trail Bool
 touch_by true ps qs = touch_nearby line_tester ps qs
 touch_by false ps qs = touch_in_full line_tester ps qs
 
--- the pair loop of either kind: the first pair that is found, among those that may meet alone, or among all; then as many tests are counted as there are pairs
+-- the pair loop of either kind: by the pairs that may meet, or by all, with as many counted tests as there are pairs
 abbrev pub meet_by : Meeting → Bool → List Part → List Part → Walk Trail Bool
 meet_by Common near ps qs = common_by near ps qs
 meet_by Touch near ps qs = touch_by near ps qs

@@ -1,4 +1,4 @@
-//! How the next lines of a report answer the tests of a row.
+//! The tests of a row, answered by the next lines of a report.
 ghost use Rattle.std.specs.Prelude.{◌≡◌, ◌∷◌, [], IfOk, map, true};
 ghost use Rattle.rp_geometry.specs.Geometry.{is_cube_point};
 ghost use Rattle.rp_geometry.specs.sets.Shape.{passes, shape_of_parts};

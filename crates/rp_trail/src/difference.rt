@@ -1,4 +1,4 @@
-//! What is left of a list of parts outside a second one, test by test.
+//! The difference of two lists of parts, test by test.
 ghost use Rattle.std.specs.Prelude.{◌+◌, ◌≤◌, ◌<◌, ◌++◌, ◌∷◌, [], length};
 ghost use Rattle.rp_geometry.specs.Geometry.{complement};
 ghost use Rattle.rp_geometry.specs.parts.Parts.{most_half_spaces};
@@ -16,7 +16,7 @@ use rp_space::{Half, joined};
 use rp_oracle::{MAX_PARTS, Stopped};
 use std::alloc::Global;
 
-/// Returns the parts of a list without those of a second list, one after the other.
+/// Returns the rest of `parts` after each of `others` is subtracted in turn.
 pub(crate) fn subtract(
     alloc: Global,
     parts: Form,
@@ -35,7 +35,7 @@ pub(crate) fn subtract(
     Ok(current)
 }
 
-/// Returns the parts of a list without one part.
+/// Returns the rest of `parts` after `other` is subtracted.
 fn subtract_part(
     alloc: Global,
     parts: Form,
@@ -51,8 +51,8 @@ fn subtract_part(
     Ok(left)
 }
 
-/// What is left of one part outside another, behind what is left already: the part itself, without a test, where the
-/// boxes do not meet.
+/// Appends to `left` the rest of `part` outside `other`. If their boxes do not meet, the rest is `part` itself, without
+/// a test.
 fn subtract_pair(
     alloc: Global,
     left: &mut Form,
@@ -77,7 +77,7 @@ fn subtract_pair(
     Ok(())
 }
 
-/// What is left of a cell outside some half-spaces, piece by piece: outside each of them, inside those before.
+/// Appends to `left` the rest of `cell` outside `halves`, piece by piece: outside each half-space, inside those before.
 fn carve(
     alloc: Global,
     left: &mut Form,
@@ -95,7 +95,7 @@ fn carve(
     Ok(())
 }
 
-/// What is left of a cell outside one half-space, inside those before.
+/// Appends to `left` the piece of `cell` outside `half` and inside all of `before`.
 fn carve_one(
     alloc: Global,
     left: &mut Form,

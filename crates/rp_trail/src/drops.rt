@@ -15,8 +15,8 @@ use arrayvec::ArrayVec;
 use rp_cert::{Proof, check_outside};
 use rp_space::{Half, Term, joined};
 
-/// Takes the lines that drop half-spaces of a cell, one after the other, as long as they pass. What is kept is left,
-/// and what the next line says is answered, so that it isn't read again.
+/// Takes the lines that drop half-spaces of `kept`, one after another, as long as they pass, and removes these
+/// half-spaces. Returns the proof line that follows, which is then not read again.
 pub(crate) fn follow_drops<const N: usize>(
     kept: &mut ArrayVec<Half, N>,
     trail: &mut Trail<'_>,
@@ -35,8 +35,8 @@ pub(crate) fn follow_drops<const N: usize>(
     next
 }
 
-/// Returns the half-space that a line drops: it is kept, and the multiples show that none of the others' members is
-/// outside it.
+/// Returns the half-space that `next` drops. It is in `kept`, and the multiples show that every point of the others is
+/// inside it.
 fn dropped(kept: &[Half], next: &Option<Proof>) -> Option<Half>
     requires { length kept.now ≤ 64 }
     ensures { result ≡ dropped_by kept.now (option_map line_of next.now) }
@@ -79,7 +79,7 @@ fn turn<const N: usize>(halves: &mut ArrayVec<Half, N>, half: &Half)
     halves.push(half.not());
 }
 
-/// Takes the first place of a half-space away, if there is one.
+/// Removes the first `half` of `halves`, if there is one.
 fn remove<const N: usize>(halves: &mut ArrayVec<Half, N>, half: &Half)
     ensures items { halves.new.items ≡ without half.now halves.old.items }
     ensures fewer { length halves.new.items ≤ length halves.old.items }
@@ -89,14 +89,14 @@ fn remove<const N: usize>(halves: &mut ArrayVec<Half, N>, half: &Half)
     }
 }
 
-/// Returns the first place of a half-space in a list.
+/// Returns the index of the first `half` in `halves`.
 fn place_of(half: &Half, halves: &[Half]) -> Option<usize>
     ensures { result ≡ position (half_space_eq half.now) halves.now }
 {
     halves.iter().position(|other| half == other)
 }
 
-/// Returns whether a half-space stands in a list.
+/// Returns whether `half` is in `halves`.
 pub(crate) fn is_listed(half: &Half, halves: &[Half]) -> bool
     ensures { result ≡ is_listed half.now halves.now }
 {

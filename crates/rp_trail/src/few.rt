@@ -1,17 +1,17 @@
-//! Few half-spaces put together, in little room.
+//! Short lists of half-spaces, in little room.
 ghost use Rattle.std.specs.Prelude.{◌≡◌, ◌+◌, ◌≤◌, ◌++◌, length};
 ghost use Rattle.arrayvec.specs.ArrayVec.{array_vec_len};
 
 use arrayvec::ArrayVec;
 use rp_space::Half;
 
-/// The most half-spaces that are few: more than most pairs of parts have together.
+/// The most half-spaces of a short list: more than most pairs of parts have together.
 pub(crate) const MOST_FEW: usize = 24;
 
-/// A list of few half-spaces. It is made much faster than one with room for a whole cell.
+/// A short list of half-spaces. It is made much faster than a list with room for a whole cell.
 pub(crate) type Few = ArrayVec<Half, 24>;
 
-/// Appends half-spaces, for which there is room.
+/// Appends `halves`, for which there is room.
 pub(crate) fn put(few: &mut Few, halves: &[Half])
     requires { array_vec_len few.old + length halves.now ≤ 24 }
     ensures { few.new.items ≡ few.old.items ++ halves.now }

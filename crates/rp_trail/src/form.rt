@@ -20,13 +20,18 @@ use rp_lists::Listed;
 use rp_oracle::Stopped;
 use std::alloc::{AllocError, Global};
 
-/// A list of parts. Its members are those of any part.
+/// A list of parts. A point is a member iff it is in a part.
 pub type Form = Listed<Kept>;
 
 /// Returns the join of `a` and `b`, on the next lines of `trail`: a part test of each part of `a` with each part of
-/// `b`. As many tests are counted as there are pairs. `Limit` exactly where too many tests are counted, where a part
-/// would have more than 32 half-spaces or where more than 1,024 parts are made. `LimitReported` and `Wrong` come where a line
-/// that is due doesn't stand there.
+/// `b`. As many tests are counted as there are pairs.
+///
+/// # Errors
+///
+/// * `Limit` iff too many tests are counted, a part would have more than 32 half-spaces, or more than 1,024 parts are
+///   made;
+/// * `LimitReported` or `Wrong` if the next line is not the one that is due;
+/// * `Memory` if memory runs out.
 pub fn joined(alloc: Global, a: &Form, b: &Form, trail: &mut Trail<'_>) -> Result<Form, Stopped>
     ensures comes { Refines (λ form. form.items) result trail.new (join line_tester a.now.items b.now.items trail.old) }
     ensures members { length a.now.items ≤ most_parts → length b.now.items ≤ most_parts →
@@ -40,10 +45,14 @@ pub fn joined(alloc: Global, a: &Form, b: &Form, trail: &mut Trail<'_>) -> Resul
     Ok(form)
 }
 
-/// Returns the difference of `a` and `b`, on the next lines of `trail`: each part of `b` is taken away from `a` in
-/// turn. `Limit` exactly where too many tests are counted, where a part would have more than 32 half-spaces, or where
-/// more than 1,024 parts are left behind a part of `b`. `LimitReported` and `Wrong` come where a line that is due doesn't stand
-/// there.
+/// Returns the difference of `a` and `b`, on the next lines of `trail`: each part of `b` is subtracted in turn.
+///
+/// # Errors
+///
+/// * `Limit` iff too many tests are counted, a part would have more than 32 half-spaces, or more than 1,024 parts are
+///   left after a part of `b`;
+/// * `LimitReported` or `Wrong` if the next line is not the one that is due;
+/// * `Memory` if memory runs out.
 pub fn differed(alloc: Global, a: &Form, b: &Form, trail: &mut Trail<'_>) -> Result<Form, Stopped>
     ensures comes { Refines (λ form. form.items) result trail.new (subtract line_tester a.now.items b.now.items trail.old) }
     ensures members { length a.now.items ≤ most_parts → length b.now.items ≤ most_parts →
@@ -55,11 +64,14 @@ pub fn differed(alloc: Global, a: &Form, b: &Form, trail: &mut Trail<'_>) -> Res
     subtract(alloc, first, b.items(), trail)
 }
 
-/// Returns whether two lists of parts share a member, on the next lines: a strict test of each part of the first with
-/// each part of the second, up to the first pair that is found. With `near` only the pairs are tested whose boxes share
-/// more than boundary, and nothing is counted; else as many tests are counted as there are pairs, and `Limit` comes
-/// exactly where these are too many. `LimitReported` and `Wrong` come where a line that is due doesn't stand there; `Memory`
-/// never comes.
+/// Returns whether `a` and `b` share a member, on the next lines of `trail`: a strict test of each part of `a` with
+/// each part of `b`, up to the first pair that does. If `near`, only pairs are tested whose boxes share more than
+/// boundary, and no test is counted. Otherwise as many tests are counted as there are pairs.
+///
+/// # Errors
+///
+/// `Limit` iff too many tests are counted. `LimitReported` or `Wrong` if the next line is not the one that is due. `Memory`
+/// never.
 pub fn common(a: &Form, b: &Form, near: bool, trail: &mut Trail<'_>) -> Result<bool, Stopped>
     ensures comes { Refines (λ found. found) result trail.new (common_by near a.now.items b.now.items trail.old) }
     ensures right { length a.now.items ≤ most_parts → length b.now.items ≤ most_parts →
@@ -71,11 +83,14 @@ pub fn common(a: &Form, b: &Form, near: bool, trail: &mut Trail<'_>) -> Result<b
     meet(Meeting::Common, a, b, near, trail)
 }
 
-/// Returns whether two lists of parts are in contact, on the next lines: a weak test of each part of the first with
-/// each part of the second, up to the first pair that is found. With `near` only the pairs are tested whose boxes share
-/// a point, the boundary included, and nothing is counted; else as many tests are counted as there are pairs, and
-/// `Limit` comes exactly where these are too many. `LimitReported` and `Wrong` come where a line that is due doesn't stand
-/// there; `Memory` never comes.
+/// Returns whether `a` and `b` are in contact, on the next lines of `trail`: a weak test of each part of `a` with each
+/// part of `b`, up to the first pair that is. If `near`, only pairs are tested whose boxes share a point, the boundary
+/// included, and no test is counted. Otherwise as many tests are counted as there are pairs.
+///
+/// # Errors
+///
+/// `Limit` iff too many tests are counted. `LimitReported` or `Wrong` if the next line is not the one that is due. `Memory`
+/// never.
 pub fn touching(a: &Form, b: &Form, near: bool, trail: &mut Trail<'_>) -> Result<bool, Stopped>
     ensures comes { Refines (λ found. found) result trail.new (touch_by near a.now.items b.now.items trail.old) }
     ensures right { length a.now.items ≤ most_parts → length b.now.items ≤ most_parts →
@@ -87,7 +102,7 @@ pub fn touching(a: &Form, b: &Form, near: bool, trail: &mut Trail<'_>) -> Result
     meet(Meeting::Touch, a, b, near, trail)
 }
 
-/// Returns whether parts of two lists meet.
+/// Returns whether a part of `a` and a part of `b` meet.
 fn meet(
     meeting: Meeting,
     a: &Form,
@@ -104,7 +119,7 @@ fn meet(
     first_pair(meeting, a.items(), b.items(), near, trail)
 }
 
-/// Counts as many tests as there are pairs of parts.
+/// Counts as many tests as there are pairs of parts. `Limit` iff these are too many.
 fn count_pairs(a: &Form, b: &Form, trail: &mut Trail<'_>) -> Result<(), Stopped>
     ensures comes { Refines (λ x. x) result trail.new (follow_count (length a.now.items * length b.now.items) trail.old) }
     ensures memory { IfErr result IsNotMemory }
@@ -116,7 +131,7 @@ fn count_pairs(a: &Form, b: &Form, trail: &mut Trail<'_>) -> Result<(), Stopped>
     Ok(())
 }
 
-/// Puts a part behind a list, if there is one.
+/// Appends `part` to `form`, if there is one.
 pub(crate) fn put(form: &mut Form, part: Option<Kept>) -> Result<(), AllocError>
     ensures { IfOk result (λ _. form.new.items ≡ form.old.items ++ made_part part) }
 {

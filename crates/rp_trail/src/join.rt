@@ -1,4 +1,4 @@
-//! What two lists of parts have in common, test by test.
+//! The join of two lists of parts, test by test.
 ghost use Rattle.rp_reports.specs.Check.{line_tester};
 ghost use Rattle.rp_semantics.specs.Form.{join_pair, join_with_part, join_each};
 ghost use Rattle.rp_oracle.specs.Refines.{Refines};
@@ -10,7 +10,7 @@ use crate::trail::Trail;
 use rp_oracle::{MAX_PARTS, Stopped};
 use std::alloc::Global;
 
-/// Each part of a list with each part of a second list: what they have in common comes behind the parts made already.
+/// Appends to `form` the common part of each of `parts` with each of `others`, if it has a point.
 pub(crate) fn join_each(
     alloc: Global,
     form: &mut Form,
@@ -26,7 +26,7 @@ pub(crate) fn join_each(
     Ok(())
 }
 
-/// Joins one part with each part of a list.
+/// Appends to `form` the common part of `part` with each of `others`, if it has a point.
 fn join_with_part(
     alloc: Global,
     form: &mut Form,
@@ -42,7 +42,7 @@ fn join_with_part(
     Ok(())
 }
 
-/// Takes one part test of two parts together.
+/// Appends to `form` the part that a part test makes of `part` and `other` together, if it has a point.
 fn join_pair(
     alloc: Global,
     form: &mut Form,

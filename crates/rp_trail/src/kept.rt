@@ -50,8 +50,7 @@ impl Kept {
     }
 }
 
-/// Does nothing: every half-space is kept in lowest terms and within its bounds, and this makes it known of all
-/// half-spaces of a list.
+/// Does nothing, but its contract says that the half-spaces of a list are within their bounds and in lowest terms.
 pub(crate) fn keep_halves(halves: &[Half])
     ensures { AreKeptHalfSpaces halves.now }
 {
@@ -60,7 +59,7 @@ pub(crate) fn keep_halves(halves: &[Half])
     }
 }
 
-/// Does nothing: every part is as it must be, and this makes it known of all parts of a list.
+/// Does nothing, but its contract says that the parts of a list have the properties of a checked part.
 pub(crate) fn keep_parts(parts: &[Kept])
     ensures { AllByRecursion IsCheckedPart parts.now }
 {
@@ -69,7 +68,7 @@ pub(crate) fn keep_parts(parts: &[Kept])
     }
 }
 
-/// Does nothing: a part is as it must be, and this makes it known.
+/// Does nothing, but its contract says that `part` has the properties of a checked part.
 pub(crate) fn keep_part(part: &Kept)
     ensures { IsCheckedPart part.now }
 {

@@ -1,13 +1,12 @@
 #![tactic(auto)]
-//! Tests, parts and lists of parts that are followed on the proof lines of a report, which anyone may have written:
-//! each certificate is checked, and nothing is searched for.
+//! Tests, parts and lists of parts that are followed on the proof lines of a report, which anyone may have written.
+//! Each certificate is checked, and nothing is searched for.
 //!
-//! What is taken, and the first line at which a walk stops, are those of the definition's reader. A test that passes is
-//! answered with yes exactly where the cell has a point, or its weak system has; joins, differences and prisms have
-//! exactly the members; a pair that shares a point, or touches, is found exactly where there is one. These are said of
-//! parts whose boxes hold their members, as lines show them; such a box need not be the least. Lines that show slices
-//! are taken, one for each part, as long as each passes for its part. Calls that answer `AllocError` do so only for
-//! want of memory.
+//! The lines taken, and the first line at which a walk stops, are those of the definition's reader. The answer of a
+//! test that passes is yes iff the cell has a point, or its weak system has. Joins, differences and prisms have exactly
+//! the members. A pair that shares a point, or touches, is found iff there is one. All this holds for parts whose boxes
+//! contain their members, as lines show them; such a box need not be the least. Lines that show slices are taken, one
+//! for each part, as long as each passes for its part. A call returns `AllocError` only if memory runs out.
 
 mod answers;
 mod difference;

@@ -4,15 +4,15 @@ ghost use Rattle.std.specs.List.{position};
 ghost use Rattle.rp_reports.specs.Output.{report_lines};
 ghost use Rattle.rp_trail.specs.Lines.{lines_left, count_next, is_line_end};
 
-/// Returns the place of the first line end.
+/// Returns the index of the first line end.
 fn line_end(text: &[u8]) -> Option<usize>
     ensures { result ≡ position is_line_end text.now }
 {
     text.iter().position(|b| *b == b'\n')
 }
 
-/// Returns the first line of a text, without its line end, and what stands behind it. There is none exactly where the
-/// text is empty.
+/// Splits a text after its first line end. Returns the line, without its line end, and the rest. There is no line iff
+/// the text is empty.
 pub(crate) fn split_line(text: &[u8]) -> (Option<&[u8]>, &[u8])
     ensures lines { lines_left result.0 result.1.now ≡ report_lines text.now }
     ensures room { count_next result.0 + length result.1.now ≤ length text.now }

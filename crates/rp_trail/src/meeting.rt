@@ -1,4 +1,4 @@
-//! How two parts meet, and how that is tested.
+//! The two ways in which parts meet, and their tests.
 ghost use Rattle.std.specs.Prelude.{◌≡◌, ◌++◌, IfErr};
 ghost use Rattle.rp_oracle.specs.Refines.{Refines};
 ghost use Rattle.rp_trail.specs.Stops.{IsOfLine};
@@ -8,7 +8,7 @@ use crate::kept::Kept;
 use crate::trail::Trail;
 use rp_oracle::Stopped;
 
-/// How two parts meet.
+/// The way in which two parts meet.
 #[derive(Clone, Copy)]
 pub(crate) enum Meeting {
     /// They have a common member: a strict test of both together finds a point.
@@ -18,7 +18,7 @@ pub(crate) enum Meeting {
 }
 
 impl Meeting {
-    /// Returns whether the boxes of two parts let them meet.
+    /// Returns whether the boxes of two parts let the parts meet.
     pub(crate) fn may_be(self, first: &Kept, second: &Kept) -> bool
         ensures { result ≡ may_meet_by self first.now second.now }
     {

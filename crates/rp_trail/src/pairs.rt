@@ -10,8 +10,8 @@ use crate::meeting::Meeting;
 use crate::trail::Trail;
 use rp_oracle::Stopped;
 
-/// Each part of a list with each part of a second list, up to the first pair that meets. Where `near`, only the pairs
-/// are tested whose boxes let them meet.
+/// Returns whether a part of `parts` and one of `others` meet, testing pairs up to the first that does. If `near`, only
+/// pairs are tested whose boxes let them meet.
 pub(crate) fn first_pair(
     meeting: Meeting,
     parts: &[Kept],
@@ -30,7 +30,7 @@ pub(crate) fn first_pair(
     Ok(false)
 }
 
-/// Tests one part with each part of a list, up to the first that it meets.
+/// Returns whether `part` meets one of `others`, testing up to the first that it meets.
 fn first_with_part(
     meeting: Meeting,
     part: &Kept,
@@ -49,7 +49,7 @@ fn first_with_part(
     Ok(false)
 }
 
-/// Takes one test of two parts, if the pair is to be tested at all.
+/// Takes one test of two parts. If `near` and their boxes do not let them meet, takes none.
 fn test_pair(
     meeting: Meeting,
     part: &Kept,

@@ -16,11 +16,15 @@ use rp_space::{Half, Halves, joined};
 use rp_oracle::{MAX_HALVES, Stopped};
 use std::alloc::Global;
 
-/// Takes a part test of `cell`, of at most 64 half-spaces, on the next lines of `trail`: the part that they make of
-/// it, and `None` where the strict test shows that the cell has no point. Lines may drop half-spaces that add nothing;
-/// then a line gives a box, and further ones show those of its sides that are neither kept nor the cube's. `Limit`
-/// exactly where more than 32 half-spaces are kept and the next line drops none. `LimitReported` and `Wrong` come where a line
-/// that is due doesn't stand there.
+/// Takes a part test of `cell`, of at most 64 half-spaces, on the next lines of `trail`. Returns the part that they
+/// make, or `None` if the strict test shows that the cell has no point. Lines may drop half-spaces that add nothing.
+/// Then a line gives a box. Further lines show its sides that are neither in the cell nor the cube's.
+///
+/// # Errors
+///
+/// * `Limit` iff more than 32 half-spaces are left and the next line drops none;
+/// * `LimitReported` or `Wrong` if the next line is not the one that is due;
+/// * `Memory` if memory runs out.
 pub fn made(alloc: Global, cell: &[Half], trail: &mut Trail<'_>) -> Result<Option<Kept>, Stopped>
     requires { length cell.now ≤ 64 }
     ensures comes { Refines (λ part. part) result trail.new (follow_part cell.now trail.old) }

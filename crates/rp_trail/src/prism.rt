@@ -16,12 +16,17 @@ use rp_space::{Corner, Half};
 use rp_oracle::{MAX_PARTS, Stopped};
 use std::alloc::Global;
 
-/// Returns the form of the polygon over `corners` raised from `z1` to below `z2`, on the next lines of `trail`: a part
-/// test of the trapezoid of each edge whose ends have two x, and the two differences that exchange its part with the
-/// parts so far. The part tests aren't counted, those of the differences are. There are from 1 to 256 corners, and all
-/// numbers are within their bounds. `Limit` exactly where too many tests are counted, where a part would have more than
-/// 32 half-spaces, or where more than 1,024 parts are left behind an edge or in the course of a difference. `LimitReported` and
-/// `Wrong` come where a line that is due doesn't stand there.
+/// Returns the form of the polygon over `corners` raised from `z1` to below `z2`, on the next lines of `trail`. For
+/// each edge whose ends have two x, a part test of its trapezoid is taken, and the two differences that exchange its
+/// part with the parts so far. The tests of the differences are counted, the part tests are not. There are from 1 to
+/// 256 corners, and all numbers are within their bounds.
+///
+/// # Errors
+///
+/// * `Limit` iff too many tests are counted, a part would have more than 32 half-spaces, or more than 1,024 parts are
+///   left after an edge or during a difference;
+/// * `LimitReported` or `Wrong` if the next line is not the one that is due;
+/// * `Memory` if memory runs out.
 pub fn prismed(
     alloc: Global,
     z1: i32,
@@ -41,7 +46,7 @@ pub fn prismed(
     Ok(current)
 }
 
-/// The part of a cell, if there is one with a point, exchanged with the parts so far.
+/// Exchanges the part of `cell`, if it has a point, with the parts so far.
 fn exchange_cell(
     alloc: Global,
     current: Form,
@@ -61,8 +66,8 @@ fn exchange_cell(
     exchange(alloc, &current, &new, trail)
 }
 
-/// Returns what is in one of two lists of parts and not in the other: what is left of the first outside the second, and
-/// then what is left of the second outside the first.
+/// Returns the symmetric difference of two lists of parts: the first without the second, and then the second without
+/// the first.
 fn exchange(
     alloc: Global,
     current: &Form,

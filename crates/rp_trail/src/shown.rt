@@ -1,5 +1,5 @@
-//! Slices of parts at a height, each on a line of its own. The check searches for none: a line that shows no slice of
-//! its part that passes is not the line of the slice that a search finds either, so it is wrong.
+//! Slices of parts at a height, each on a line of its own. The check searches for none: a line that shows no slice that
+//! passes for its part is not the line of the slice that a search finds either, so it is wrong.
 ghost use Rattle.std.specs.Prelude.{◌≡◌, IfOk, IfErr, OnOk, map};
 ghost use Rattle.rp_geometry.specs.sections.Trace.{IsHeight};
 ghost use Rattle.rp_reports.specs.Check.{next_slice, taken, slice_told, slices_told};
@@ -19,9 +19,12 @@ use std::alloc::Global;
 /// Slices, one for each part of a form.
 pub type Slices = Listed<Slice>;
 
-/// Returns the slices of the parts of `form` at `z`, a height of the cube, on the next lines of `trail`: one line for
-/// each part, in order, which shows a ring or a flat certificate that passes for its cell. `Wrong` comes exactly where
-/// a line shows none that passes, or is missing; `Memory` for want of memory alone, and `LimitReported` and `Limit` never.
+/// Returns the slices of the parts of `form` at `z`, a height of the cube, on the next lines of `trail`. One line for
+/// each part, in order, shows a ring or a flat certificate that passes for its cell.
+///
+/// # Errors
+///
+/// `Wrong` iff a line shows no slice that passes, or is missing. `Memory` if memory runs out. `LimitReported` and `Limit` never.
 pub fn slices(alloc: Global, form: &Form, z: i32, trail: &mut Trail<'_>) -> Result<Slices, Stopped>
     requires { IsHeight z }
     ensures comes { Refines (λ _. tt) result trail.new (follow_slice_lines z form.now.items trail.old) }
@@ -36,7 +39,7 @@ pub fn slices(alloc: Global, form: &Form, z: i32, trail: &mut Trail<'_>) -> Resu
     Ok(slices)
 }
 
-/// Returns the slice of a part at a height, on the next line.
+/// Returns the slice of `part` at the height `z`, on the next line.
 fn follow_slice(part: &Kept, z: i32, trail: &mut Trail<'_>) -> Result<Slice, Stopped>
     requires { IsHeight z }
     ensures comes { Refines (λ _. tt) result trail.new (follow_slice_line z part.now trail.old) }

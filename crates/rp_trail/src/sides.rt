@@ -1,4 +1,4 @@
-//! The box that the lines of a part test give, and what shows its sides.
+//! The box that the lines of a part test give, and the proofs of its sides.
 ghost use Rattle.std.specs.Prelude.{◌≡◌, ◌≤◌, ◌++◌, ◌∷◌, [], true, length, IfOk};
 ghost use Rattle.std.specs.Option.{option_map};
 ghost use Rattle.rp_geometry.specs.Geometry.{box_half_spaces, complement, is_box_in_bounds};
@@ -15,7 +15,7 @@ use rp_cert::{Proof, check_outside};
 use rp_space::{Half, IntBox, Term, box_halves, cube, joined};
 use rp_oracle::Stopped;
 
-/// Returns the box that the next line gives, of which is known what it says.
+/// Returns the box that the next line gives. `next` is this line as a proof line.
 pub(crate) fn follow_box(next: Option<Proof>, trail: &mut Trail<'_>) -> Result<IntBox, Stopped>
     requires { option_map line_of next ≡ next_proof trail.old.lines }
     ensures comes { Refines integer_box result trail.new (box_by_line (next_proof trail.old.lines) trail.old) }
@@ -36,7 +36,7 @@ fn is_proper(bounds: &IntBox) -> bool
     x1 < x2 && y1 < y2 && z1 < z2
 }
 
-/// Takes the lines that show that a box holds all members of a cell, side by side.
+/// Takes the lines that show that a box contains all members of a cell, one for each side that needs it.
 pub(crate) fn follow_sides(
     kept: &[Half],
     bounds: &IntBox,
@@ -53,7 +53,7 @@ pub(crate) fn follow_sides(
     Ok(())
 }
 
-/// Takes the line that shows a side, unless it is one of the cell or of the cube.
+/// Takes the line that shows `side`, unless the side is in the cell or the cube's.
 fn follow_side(kept: &[Half], side: &Half, trail: &mut Trail<'_>) -> Result<(), Stopped>
     requires { length kept.now ≤ 64 }
     ensures { Refines (λ _. tt) result trail.new (follow_side kept.now side.now trail.old) }

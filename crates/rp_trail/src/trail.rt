@@ -1,4 +1,4 @@
-//! A place in a report: the lines still to come, and how many tests were counted.
+//! A position in a report: the lines still to come, and the number of tests counted.
 ghost use Rattle.std.specs.Prelude.{◌≡◌, ◌+◌, ◌≤◌, ◌<◌, ◌++◌, ◌↔◌, true, false, length, IsTrue, IfOk, IfErr};
 ghost use Rattle.std.specs.Option.{option_map};
 ghost use Rattle.rp_geometry.specs.Geometry.{RationalPoint};
@@ -23,18 +23,18 @@ use rp_oracle::{MAX_TESTS, Stopped};
 use rp_text::{read_proof, read_slice};
 use std::marker::Model;
 
-/// The line that a report has in place of what is due where a limit was met.
+/// The line that a report has in place of the line that is due, if a limit was met.
 const LIMIT_LINE: &[u8] = b"= refused limit";
 
-/// A place in a report: the lines still to come, the number of the next one, and the number of tests that a command has
-/// counted, at most 65,536. The bytes of the report are neither copied nor read again.
+/// A position in a report: the lines still to come, the number of the next one, and the number of tests that a command
+/// has counted, at most 65,536. The bytes of the report are neither copied nor read again.
 #[derive(Drop)]
 pub struct Trail<'a> {
     /// The next line, without its line end.
     line: Option<&'a [u8]>,
-    /// What stands behind it.
+    /// The text after the next line.
     rest: &'a [u8],
-    /// Its number; where no line is left, the number of lines plus 1.
+    /// The number of the next line; if no line is left, the number of lines plus 1.
     number: u32,
     tests: u32,
 }
@@ -54,8 +54,8 @@ impl<'a> Model for Trail<'a> {
 }
 
 impl<'a> Trail<'a> {
-    /// Returns a trail over the lines of a report of at most 67,108,864 bytes, from the first, with no tests. They are
-    /// cut at each line feed, and no carriage return is taken away; the last line may lack its line feed.
+    /// Returns a trail over the lines of `report`, of at most 67,108,864 bytes, from the first, with no tests. The
+    /// lines end at each line feed, and no carriage return is removed; the last line may lack its line feed.
     pub fn new(report: &'a [u8]) -> Trail<'a>
         requires { length report.now ≤ most_report_bytes }
         ensures { result ≡ record { lines = report_lines report.now; number = 1; tests = 0 } }
@@ -69,7 +69,7 @@ impl<'a> Trail<'a> {
         }
     }
 
-    /// Returns a second trail from this place on, to look at the lines behind the next one.
+    /// Returns a second trail from this position on, to look at the lines after the next one.
     pub fn ahead(&self) -> Trail<'a>
         ensures { result ≡ self.now }
     {
@@ -81,7 +81,7 @@ impl<'a> Trail<'a> {
         }
     }
 
-    /// Returns the next line, without its line feed. `None` exactly where none is left.
+    /// Returns the next line, without its line feed; `None` iff none is left.
     pub fn peek(&self) -> Option<&'a [u8]>
         ensures { option_map (λ line. line.now) result ≡ next_line self.now.lines }
     {
@@ -99,7 +99,7 @@ impl<'a> Trail<'a> {
         self.number += 1;
     }
 
-    /// Returns the number of the next line, from 1. Where none is left it is the number of lines plus 1.
+    /// Returns the number of the next line, from 1. If none is left, it is the number of lines plus 1.
     pub fn number(&self) -> u32
         ensures { result ≡ self.now.number }
     {
@@ -113,7 +113,7 @@ impl<'a> Trail<'a> {
         self.tests = 0;
     }
 
-    /// Counts `n` more tests. `false` exactly where their number would be above 65,536; then all is as before.
+    /// Counts `n` more tests. Returns false iff there would be more than 65,536; the count is then as before.
     pub fn count(&mut self, n: u64) -> bool
         ensures { follow_count n self.old ≡ counted result self.new }
     {
@@ -125,10 +125,14 @@ impl<'a> Trail<'a> {
         true
     }
 
-    /// Takes a strict test of the cell of `first` followed by `second`, at most 64 half-spaces together: whether the
-    /// cell has a point. The next line must show it: it has points that pass as an inside certificate of the cell, or
-    /// multiples that pass as a strict outside one. `LimitReported` where it tells of a limit, `Wrong` where it is any other
-    /// line; never `Limit` or `Memory`. Then no line is taken. The test isn't counted.
+    /// Takes a strict test of the cell of `first` followed by `second`, at most 64 half-spaces together. Returns
+    /// whether the cell has a point. The next line must show it: by points that pass as an inside certificate of the
+    /// cell, or multiples that pass as a strict outside certificate. The test is not counted.
+    ///
+    /// # Errors
+    ///
+    /// `LimitReported` if the next line reports a limit; `Wrong` if it is any other line, or no line is left. No line is then
+    /// taken. `Limit` and `Memory` never.
     pub fn strict(&mut self, first: &[Half], second: &[Half]) -> Result<bool, Stopped>
         requires { length first.now + length second.now ≤ 64 }
         ensures comes { Refines (λ found. found) result self.new (follow_strict (first.now ++ second.now) self.old) }
@@ -144,10 +148,14 @@ impl<'a> Trail<'a> {
         self.strict_test(cell.as_slice())
     }
 
-    /// Takes a weak test of the cell of `first` followed by `second`, at most 64 half-spaces together: whether its
-    /// weak system has a point. The next line must show it: it has a point of the weak system, or multiples that pass
-    /// as a weak outside certificate. `LimitReported` where it tells of a limit, `Wrong` where it is any other line; never
-    /// `Limit` or `Memory`. Then no line is taken. The test isn't counted.
+    /// Takes a weak test of the cell of `first` followed by `second`, at most 64 half-spaces together. Returns whether
+    /// its weak system has a point. The next line must show it: by a point of the weak system, or multiples that pass
+    /// as a weak outside certificate. The test is not counted.
+    ///
+    /// # Errors
+    ///
+    /// `LimitReported` if the next line reports a limit; `Wrong` if it is any other line, or no line is left. No line is then
+    /// taken. `Limit` and `Memory` never.
     pub fn weak(&mut self, first: &[Half], second: &[Half]) -> Result<bool, Stopped>
         requires { length first.now + length second.now ≤ 64 }
         ensures comes { Refines (λ found. found) result self.new (follow_weak (first.now ++ second.now) self.old) }
@@ -197,21 +205,21 @@ impl<'a> Trail<'a> {
         }
     }
 
-    /// Returns the next line as a proof line. `None` where it is none, or where no line is left.
+    /// Returns the next line as a proof line; `None` if it is none, or no line is left.
     pub(crate) fn next_proof(&self) -> Option<Proof>
         ensures { option_map line_of result ≡ next_proof self.now.lines }
     {
         read_proof(self.peek()?)
     }
 
-    /// Returns the slice that the next line shows. `None` where it shows none, or where no line is left.
+    /// Returns the slice that the next line shows; `None` if it shows none, or no line is left.
     pub(crate) fn next_slice(&self) -> Option<Slice>
         ensures { option_map slice_shown result ≡ next_slice self.now.lines }
     {
         read_slice(self.peek()?)
     }
 
-    /// Takes the next line, of which there is one, if its certificate passes; else it is wrong.
+    /// Takes the next line and returns `shown`, if `passes`; otherwise `Wrong`.
     pub(crate) fn take_if<T: Drop>(&mut self, passes: bool, shown: T) -> Result<T, Stopped>
         requires { 0 < length self.old.lines }
         ensures comes { Refines (λ x. x) result self.new (taken_if passes shown self.old) }
@@ -224,7 +232,7 @@ impl<'a> Trail<'a> {
         Ok(shown)
     }
 
-    /// Why a test can't be answered, where the next line doesn't fit: it tells of a limit, or it is wrong.
+    /// Returns the reason why a test has no answer when the next line does not fit: it reports a limit, or it is wrong.
     pub(crate) fn nothing_due(&self) -> Stopped
         ensures due { IsNotDue result self.now }
         ensures line { IsOfLine result }
@@ -236,7 +244,7 @@ impl<'a> Trail<'a> {
         }
     }
 
-    /// Returns whether the next line tells of a limit: it is `= refused limit`.
+    /// Returns whether the next line reports a limit: it is `= refused limit`.
     pub fn tells_limit(&self) -> bool
         ensures { result ≡ tells_limit self.now.lines }
     {

@@ -1,12 +1,12 @@
--- Numbers in trees: a list has for each number the number above it, and for a root the root itself.
+-- Numbers in trees: a list has for each number its parent, and for a root the root itself.
 use Rattle.std.specs.Prelude.{◌≡◌, ℕ, ◌+◌, ◌≤◌, List, length, slice_index}
 use Rattle.rp_geometry.specs.laws.PieceLaws.{IsJoined}
 
--- no number stands under a greater one
+-- no number has a greater parent
 abbrev pub AreLow : List ℕ → Type 0
 AreLow parents = (k : ℕ) → slice_index parents k ≤ k
 
--- the numbers from 1 to n in trees: two of them stand in one tree exactly where links join them
+-- the numbers from 1 to n in trees: two of them are in one tree iff links join them
 pub record IsForest (links : List (ℕ × ℕ)) (n : ℕ) (parents : List ℕ) : Type 0 where
   pub size : length parents ≡ n + 1
   pub low : AreLow parents

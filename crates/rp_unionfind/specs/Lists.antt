@@ -1,4 +1,4 @@
--- Lists of numbers, as the code keeps them.
+-- Lists of numbers, as the code stores them.
 use Rattle.std.specs.Prelude.{ℕ, zero, suc, ◌≤◌, List, [], ◌∷◌, ◌++◌, map}
 use Rattle.rp_lists.specs.Listed.{Listed}
 
@@ -14,7 +14,7 @@ numbers_of list = lists_of list.items
 abbrev pub IsWithin : ℕ → ℕ × ℕ → Type 0
 IsWithin n l = (1 ≤ l.0) × (l.0 ≤ n) × (1 ≤ l.1) × (l.1 ≤ n)
 
--- the lists with a number behind those of the list at a place, or in a new list behind all
+-- the lists with a number appended to the list at a place, or in a new list at the end
 abbrev pub with_number : ℕ → ℕ → List (List ℕ) → List (List ℕ)
 with_number place k [] = (k ∷ []) ∷ []
 with_number zero k (ks ∷ gs) = (ks ++ k ∷ []) ∷ gs

@@ -1,4 +1,4 @@
--- What a list of half-spaces leaves of the line of two planes.
+-- The part of the line of two planes that a list of half-spaces leaves.
 use Rattle.std.specs.Prelude.{◌≡◌, Bool, true, false, ◌&&◌, ◌||◌, ◌⊎◌, pos, negsuc, ◌≤ℤ◌, List, Some, None}
 use Rattle.std.specs.List.{Contains}
 use Rattle.rp_algebra.specs.Integer.{is_negative, is_positive}
@@ -9,17 +9,17 @@ use Rattle.rp_vertex.specs.declared.line.Line.{Line}
 use Rattle.rp_vertex.specs.declared.line.Line.TheVariants.{Unknown, Empty, Between}
 use Rattle.rp_vertex.specs.declared.line.Span.{Span}
 
--- two points lie on the same side of a plane, and not on it
+-- two points are on the same side of a plane, and not on it
 abbrev pub are_on_one_side : HalfSpace → RationalPoint → RationalPoint → Bool
 are_on_one_side h p q = (is_positive (side_value h p) && is_positive (side_value h q)) || (is_negative (side_value h p) && is_negative (side_value h q))
 
--- no vertex on the line lies on the plane of the half-space, as the ends tell
+-- no vertex on the line is on the plane of the half-space, by the ends of the line
 abbrev pub passes : Line → HalfSpace → Bool
 passes Unknown h = false
 passes Empty h = true
 passes (Between span) h = are_on_one_side h span.one span.two
 
--- no vertex is passed over
+-- no half-space that is passed over has a vertex on the line
 abbrev pub HoldsVertices : List HalfSpace → TwoHalfSpaces → Line → Type 0
 HoldsVertices system pair line = (h : HalfSpace) → passes line h ≡ true → vertex_at any_point system pair.first pair.second h ≡ None
 
@@ -34,7 +34,7 @@ pub record IsLeft (system : List HalfSpace) (pair : TwoHalfSpaces) (p : Rational
   pub on : IsOnLine pair p
   pub sides : (h : HalfSpace) → Contains system h → pos 0 ≤ℤ side_value h p
 
--- two points of the line between which all those lie that are left: what is not negative at both is not negative at these
+-- two points of the line with every point that is left between them: a function that is not negative at both is not negative at a point that is left
 pub record IsSpan (system : List HalfSpace) (pair : TwoHalfSpaces) (span : Span) : Type 0 where
   pub one : IsOnLine pair span.one
   pub two : IsOnLine pair span.two
@@ -61,11 +61,11 @@ IsInCube pair span =
 abbrev pub IsNothingLeft : List HalfSpace → TwoHalfSpaces → Type 0
 IsNothingLeft system pair = (p : RationalPoint) → IsLeft system pair p → ⊥
 
--- the ends hold between them what is left, where something is
+-- the ends have between them every point that is left, if the flag is true; otherwise no point is left
 abbrev pub HoldsLeft : List HalfSpace → TwoHalfSpaces → Span → Bool → Type 0
 HoldsLeft system pair span true = IsSpan system pair span
 HoldsLeft system pair span false = IsNothingLeft system pair
 
--- where a half-space stands in a list, the new ends hold what is left between the old ones
+-- if the half-space is in the system, the new ends have between them what is left between the old ones
 abbrev pub Cuts : TwoHalfSpaces → HalfSpace → Span → Span → Bool → Type 0
 Cuts pair h old new is_left = (system : List HalfSpace) → Contains system h → IsSpan system pair old → HoldsLeft system pair new is_left

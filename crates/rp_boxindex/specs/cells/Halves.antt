@@ -7,7 +7,7 @@ use Rattle.rp_boxindex.specs.declared.middle.Middle.TheVariants.{X, Y, Z, Id}
 use Rattle.rp_boxindex.specs.declared.place.Place.{Place}
 use Rattle.rp_boxindex.specs.tree.Order.{place_of}
 
--- a place is in the upper half of a cell with this middle
+-- the place is in the upper half of a cell with the given middle
 abbrev pub is_upper : Middle → Place → Bool
 is_upper (X middle) p = int_le middle p.low.x
 is_upper (Y middle) p = int_le middle p.low.y
@@ -22,7 +22,7 @@ AllLower middle es = count (λ e. is_upper middle (place_of e)) es ≡ 0
 abbrev pub AllUpper : Middle → List Entry → Type 0
 AllUpper middle es = count (λ e. not (is_upper middle (place_of e))) es ≡ 0
 
--- one list is in the lower half, and the other in the upper half
+-- all entries of the first list are in the lower half, and all of the second in the upper half
 pub record AreHalves (lower : List Entry) (middle : Middle) (upper : List Entry) : Type 0 where
   pub below : AllLower middle lower
   pub above : AllUpper middle upper

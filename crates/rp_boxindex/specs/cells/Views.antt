@@ -1,4 +1,4 @@
--- What a tree of cells is seen as.
+-- The view of a tree of cells.
 use Rattle.std.specs.Prelude.{List, []}
 use Rattle.rp_boxindex.specs.Boxes.{Entry}
 

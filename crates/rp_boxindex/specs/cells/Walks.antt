@@ -21,7 +21,7 @@ abbrev pub has_no_item : List (Option (Bor CellsView)) → Bool
 has_no_item [] = true
 has_no_item (o ∷ rest) = false
 
--- the entries of the pending trees, those of the last one first
+-- the entries of the pending trees, those of the last tree first
 abbrev pub pending_entries : Pending → List Entry
 pending_entries (Whole cells) = cells.now.entries
 pending_entries (Trees trees) = tree_entries trees.items
@@ -31,15 +31,15 @@ abbrev pub are_none : Pending → Bool
 are_none (Whole cells) = false
 are_none (Trees trees) = has_no_item trees.items
 
--- a walk has gone through its whole tree
+-- the walk has visited its whole tree
 abbrev pub is_done : {S : Type 0} → Walk S → Bool
 is_done walk = not walk.is_lost && are_none walk.pending
 
--- what the taker of a walk is at its end
+-- the state of the taker at the end of the walk
 abbrev pub outcome : {S : Type 0} → (S → ℕ → S) → Bool → IntegerBox → Walk S → S
 outcome after closed b walk = taken after walk.taker (ids_that_meet closed b (pending_entries walk.pending))
 
--- a walk has the outcome that it had, unless it is lost, and is done if it was
+-- the walk has the same outcome as before unless it is lost, and is done if it was done
 pub record IsFurther {S : Type 0} (after : S → ℕ → S) (closed : Bool) (b : IntegerBox) (old new : Walk S) : Type 0 where
   pub done : is_done old ≡ true → is_done new ≡ true
   pub stays : new.is_lost ≡ false → old.is_lost ≡ false

@@ -1,4 +1,4 @@
--- What a tree is seen as, and what holds at each of its nodes.
+-- The view of a tree, and the invariant of each of its nodes.
 use Rattle.std.specs.Prelude.{◌≡◌, ℕ, ◌+◌, ◌*◌, ◌^◌, ◌<◌, ◌≤◌, max, ℤ, Bool, not, ◌&&◌, int_lt, int_le, List, ◌∷◌, ◌++◌, length, Option, Some, None, Box}
 use Rattle.std.specs.declared.alloc.Global.{Global}
 use Rattle.rp_geometry.specs.Geometry.{IntegerBox}
@@ -9,7 +9,7 @@ use Rattle.rp_boxindex.specs.declared.tree.Node.{Node}
 use Rattle.rp_boxindex.specs.tree.Order.{AllAfter, IsBetween}
 use Rattle.rp_boxindex.specs.tree.Views.{TreeView, empty_tree}
 
--- the entries of a node and below it, in order
+-- the entries of a node and of the nodes below it, in order
 abbrev pub entries_of : Node → List Entry
 entries_of n = n.left.entries ++ n.entry ∷ n.right.entries
 
@@ -18,7 +18,7 @@ abbrev pub entry_of : Option (Box Node Global) → Option Entry
 entry_of None = None
 entry_of (Some n) = Some n.value.entry
 
--- what a tree with this root is seen as
+-- the view of a tree with the given root
 abbrev pub view_of : Option (Box Node Global) → TreeView
 view_of None = empty_tree
 view_of (Some n) = record { entries = entries_of n.value; height = n.value.height }
@@ -27,27 +27,27 @@ view_of (Some n) = record { entries = entries_of n.value; height = n.value.heigh
 abbrev pub high : Entry → ℤ
 high e = (integer_box e.1).x2
 
--- the greatest x of all boxes: none has a greater one, and one has it
+-- the number is the greatest x of all boxes: no box has a greater one, and some box has it
 abbrev pub IsTop : ℤ → List Entry → Type 0
 IsTop top es = (count (λ x. int_lt top (high x)) es ≡ 0) × (0 < count (λ x. int_le top (high x)) es)
 
--- the second box lies in the first, on each axis
+-- the second box is within the first, on each axis
 abbrev pub is_within : IntegerBox → IntegerBox → Bool
 is_within hull b = int_le hull.x1 b.x1 && int_le b.x2 hull.x2 && int_le hull.y1 b.y1 && int_le b.y2 hull.y2 && int_le hull.z1 b.z1 && int_le b.z2 hull.z2
 
--- all boxes of a list lie in a box
+-- all boxes of a list are within a box
 abbrev pub AreWithin : IntegerBox → List Entry → Type 0
 AreWithin hull es = count (λ e. not (is_within hull (integer_box e.1))) es ≡ 0
 
--- a tree of n entries is not too high
+-- a tree of n entries has a height with 2 ^ height at most (n + 1) ^ 2
 abbrev pub IsSlender : ℕ → ℕ → Type 0
 IsSlender n height = 2 ^ height ≤ (n + 1) * (n + 1)
 
--- two heights differ by at most so much
+-- the two heights differ by at most the given number
 abbrev pub DifferByAtMost : ℕ → ℕ → ℕ → Type 0
 DifferByAtMost by l r = (l ≤ r + by) × (r ≤ l + by)
 
--- a tree is made of two sides and an entry between them
+-- the tree has an entry between two sides, whose heights differ by at most one
 pub record AreParts (tree left : TreeView) (e : Entry) (right : TreeView) : Type 0 where
   pub entries : tree.entries ≡ left.entries ++ e ∷ right.entries
   pub between : IsBetween left.entries e right.entries
@@ -61,7 +61,7 @@ pub record IsSplit (tree : TreeView) (first : Entry) (rest : TreeView) : Type 0 
   pub not_higher : rest.height ≤ tree.height
   pub at_most_one_lower : tree.height ≤ rest.height + 1
 
--- what holds at each node of a tree
+-- the invariant of each node of a tree: order, balance, height, greatest x and box
 pub record IsSettled (n : Node) : Type 0 where
   pub between : IsBetween n.left.entries n.entry n.right.entries
   pub level : DifferByAtMost 1 n.left.height n.right.height
@@ -70,7 +70,7 @@ pub record IsSettled (n : Node) : Type 0 where
   pub hull : AreWithin (integer_box n.hull) (entries_of n)
   pub slender : IsSlender (length (entries_of n)) n.height
 
--- what holds at the root of a tree, where it has a node
+-- the invariant of the root of a tree, if there is one
 abbrev pub IsTree : Option (Box Node Global) → Type 0
 IsTree None = Unit {0}
 IsTree (Some n) = IsSettled n.value

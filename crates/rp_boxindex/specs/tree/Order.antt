@@ -23,31 +23,31 @@ lows_of es = map (λ e. (e.0, corner_of e)) es
 abbrev pub place_of : Entry → Place
 place_of e = record { low = corner_of e; id = e.0 }
 
--- a number is less than another, or the same, and what stands behind it decides
+-- a number is less than another, or equal and the further comparison is true
 abbrev pub is_less_or : ℤ → ℤ → Bool → Bool
 is_less_or a b behind = int_lt a b || (int_eq a b && behind)
 
--- a place comes before another: by the least x, by the least y where that is the same, then by the least z, and by the id where the corners are the same
+-- a place comes before another: by the least x, then the least y, then the least z, and then the id
 abbrev pub precedes : Place → Place → Bool
 precedes p q = is_less_or p.low.x q.low.x (is_less_or p.low.y q.low.y (is_less_or p.low.z q.low.z (nat_lt p.id q.id)))
 
--- an entry comes before another
+-- the first entry comes before the second
 abbrev pub is_before : Entry → Entry → Bool
 is_before a b = precedes (place_of a) (place_of b)
 
--- an entry stands at a place: neither comes before the other
+-- the entry is at the place: neither comes before the other
 abbrev pub is_at_place : Place → Entry → Bool
 is_at_place p e = not (precedes p (place_of e)) && not (precedes (place_of e) p)
 
--- all entries of a list come before one
+-- all entries of the list come before the entry
 abbrev pub AllBefore : List Entry → Entry → Type 0
 AllBefore es e = count (λ x. not (is_before x e)) es ≡ 0
 
--- all entries of a list come after one
+-- all entries of the list come after the entry
 abbrev pub AllAfter : Entry → List Entry → Type 0
 AllAfter e es = count (λ x. not (is_before e x)) es ≡ 0
 
--- an entry stands in order between two lists
+-- the entry comes after all of the first list and before all of the second
 pub record IsBetween (left : List Entry) (e : Entry) (right : List Entry) : Type 0 where
   pub before : AllBefore left e
   pub after : AllAfter e right

@@ -1,4 +1,4 @@
--- What a tree is seen as.
+-- The view of a tree.
 use Rattle.std.specs.Prelude.{ℕ, List, []}
 use Rattle.rp_boxindex.specs.Boxes.{Entry}
 

@@ -1,4 +1,4 @@
--- The laws over chains and levels, as statements. Each is proved where a contract names it.
+-- The laws over chains and levels, as statements. Each is proved by the function whose contract names it.
 use Rattle.std.specs.Prelude.{◌≡◌, ℕ, ◌<◌, IsTrue, List, Option}
 use Rattle.rp_geometry.specs.sets.Chain.{AreLevelsBy, IsChosenBy}
 use Rattle.rp_geometry.specs.parts.Groups.{is_linked}
@@ -8,11 +8,11 @@ use Rattle.rp_geometry.specs.parts.Levels.{levels_along, chain_along}
 abbrev pub LevelsAreOneBy : (ℕ → ℕ → Type 0) → Type 0
 LevelsAreOneBy R = (n last : ℕ) (levels others : List (Option ℕ)) → AreLevelsBy R n last levels → AreLevelsBy R n last others → levels ≡ others
 
--- only one chain is chosen, or there is none
+-- there is at most one chosen chain
 abbrev pub ChainIsOneBy : (ℕ → ℕ → Type 0) → Type 0
 ChainIsOneBy R = (from last : ℕ) (chosen other : Option (List ℕ)) → IsChosenBy R from last chosen → IsChosenBy R from last other → chosen ≡ other
 
--- two numbers below n are linked
+-- the two numbers are below n and linked
 abbrev pub AreLinkedBelow : List (ℕ × ℕ) → ℕ → ℕ → ℕ → Type 0
 AreLinkedBelow links n i j = (i < n) × (j < n) × IsTrue (is_linked links i j)
 
@@ -20,14 +20,14 @@ AreLinkedBelow links n i j = (i < n) × (j < n) × IsTrue (is_linked links i j)
 abbrev pub LevelsAreOneAlong : Type 0
 LevelsAreOneAlong = (links : List (ℕ × ℕ)) (n : ℕ) → LevelsAreOneBy (AreLinkedBelow links n)
 
--- only one chain along links is chosen, or there is none
+-- along links there is at most one chosen chain
 abbrev pub ChainIsOneAlong : Type 0
 ChainIsOneAlong = (links : List (ℕ × ℕ)) (n : ℕ) → ChainIsOneBy (AreLinkedBelow links n)
 
--- the levels that are computed from links are the levels
+-- the levels computed from links are the levels
 abbrev pub LevelsAreFound : Type 0
 LevelsAreFound = (links : List (ℕ × ℕ)) (n last : ℕ) → last < n → AreLevelsBy (AreLinkedBelow links n) n last (levels_along links n last)
 
--- the chain that is computed is the one that is chosen
+-- the chain computed from links is the chosen one
 abbrev pub ChainIsFound : Type 0
 ChainIsFound = (links : List (ℕ × ℕ)) (n from last : ℕ) → from < n → last < n → IsChosenBy (AreLinkedBelow links n) from last (chain_along links n from last)

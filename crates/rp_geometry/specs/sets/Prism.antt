@@ -11,7 +11,7 @@ pub record Corner : Type 0 where
   pub x : ℤ
   pub y : ℤ
 
--- the corner of two numbers
+-- the corner with the given two numbers
 abbrev pub corner_of : ℤ → ℤ → Corner
 corner_of x y = record { x = x; y = y }
 
@@ -20,11 +20,11 @@ pub record Edge : Type 0 where
   pub start : Corner
   pub end : Corner
 
--- the edge of two corners
+-- the edge between two corners
 abbrev pub edge_of : Corner → Corner → Edge
 edge_of c d = record { start = c; end = d }
 
--- the edges from a corner on along the further corners, and from the last one to the first
+-- the edges from a corner through the further corners, and from the last one to the corner `first`
 abbrev pub edges_along : Corner → Corner → List Corner → List Edge
 edges_along first c [] = edge_of c first ∷ []
 edges_along first c (d ∷ ds) = edge_of c d ∷ edges_along first d ds
@@ -34,7 +34,7 @@ abbrev pub edges_of : List Corner → List Edge
 edges_of [] = []
 edges_of (c ∷ cs) = edges_along c c cs
 
--- the ends of an edge have one x
+-- the ends of the edge have equal x
 abbrev pub is_upright : Edge → Bool
 is_upright e = int_eq e.start.x e.end.x
 
@@ -42,15 +42,15 @@ is_upright e = int_eq e.start.x e.end.x
 abbrev pub left_end : Edge → Corner
 left_end e = cond (int_lt e.start.x e.end.x) e.start e.end
 
--- the end with the greater x
+-- the end of an edge with the greater x
 abbrev pub right_end : Edge → Corner
 right_end e = cond (int_lt e.start.x e.end.x) e.end e.start
 
--- the coordinate x/w is from the left end of the edge to below its right end; an edge whose ends have one x spans nothing
+-- the coordinate x/w is from the left end of the edge to below its right end; an edge with ends of equal x spans no coordinate
 abbrev pub spans : Edge → ℤ → ℤ → Bool
 spans e x w = is_between (left_end e).x (right_end e).x x w
 
--- the half-space below the line from a left to a right end
+-- the half-space below the line from a left end to a right end
 abbrev pub below_line : Corner → Corner → HalfSpace
 below_line l r = half_space_of (r.y -ℤ l.y) (neg_ℤ (r.x -ℤ l.x)) (pos 0) ((r.x -ℤ l.x) *ℤ l.y -ℤ (r.y -ℤ l.y) *ℤ l.x)
 
@@ -64,7 +64,7 @@ is_above e p = spans e p.x p.w && holds (below_edge e) p
 
 -- ---- prisms
 
--- a polygon raised from a lower to below an upper height
+-- a polygon raised from a lower height to below an upper height
 pub record Prism : Type 0 where
   pub low : ℤ
   pub high : ℤ
@@ -75,7 +75,7 @@ abbrev pub is_odd : ℕ → Bool
 is_odd zero = false
 is_odd (suc n) = not (is_odd n)
 
--- the point is from the lower to below the upper height
+-- the point is at or above the lower height and below the upper height
 abbrev pub is_between_heights : Prism → RationalPoint → Bool
 is_between_heights s p = is_between s.low s.high p.z p.w
 
@@ -97,7 +97,7 @@ is_corner_in_bounds c = is_within_bound corner_bound c.x && is_within_bound corn
 abbrev pub most_corners : ℕ
 most_corners = 256
 
--- a prism within its bounds, with a corner
+-- a prism within its bounds, with 1 to 256 corners
 pub record IsPrism (s : Prism) : Type 0 where
   pub low : IsTrue (is_within_bound cube_bound s.low)
   pub high : IsTrue (is_within_bound cube_bound s.high)

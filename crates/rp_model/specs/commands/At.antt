@@ -11,12 +11,12 @@ use Rattle.rp_model.specs.commands.Rules.{Rule, answers}
 use Rattle.rp_model.specs.commands.Verdict.{Verdict}
 use Rattle.rp_model.specs.states.State.{Lot, present_lots, nothing_changes}
 
--- the first lot that has the point
+-- the verdict of the first lot with a part that has the point; nobody if there is none
 abbrev pub owner_line : {S : Type 0} → List (Lot S) → RationalPoint → Verdict
 owner_line [] p = Verdict.nobody
 owner_line (l ∷ ls) p = elim (is_in_parts l.parts p) [ true ↦ Verdict.parcel l.id | false ↦ owner_line ls p ]
 
--- the first lot of the list of which the point is a member
+-- the rule: the first lot of the list whose set has the point; nobody if there is none
 abbrev pub parcel_at : List (Lot Shape) → RationalPoint → Rule
 parcel_at [] p = answers (Verdict.nobody ∷ [])
 parcel_at (l ∷ ls) p = elim (is_member l.set p) [ true ↦ answers (Verdict.parcel l.id ∷ []) | false ↦ parcel_at ls p ]

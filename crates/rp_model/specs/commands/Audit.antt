@@ -11,27 +11,27 @@ use Rattle.rp_model.specs.commands.Rules.{answers}
 use Rattle.rp_model.specs.commands.Verdict.{Verdict}
 use Rattle.rp_model.specs.states.State.{Lot, StateOf, live_lots, lots_of_layer, nothing_changes}
 
--- how many pairs of parts of each two lots of one layer are chosen
+-- the number of pairs of parts, of each two lots of one layer, that pass a choice
 abbrev pub count_in_layers : {S : Type 0} → (Part → Part → Bool) → List (Lot S) → ℕ
 count_in_layers chosen [] = 0
 count_in_layers chosen (l ∷ ls) = count_with_each chosen l.parts (lot_parts (lots_of_layer l.layer ls)) + count_in_layers chosen ls
 
 module _ {W : Type 0} (tester : Tester W) where
-  -- the parts share no member with the lists of parts; an audit has no other end
+  -- tests that the parts share no member with any of the lists of parts; a common member stops the walk, as a wrong line of the report
   abbrev pub all_apart_from : List Part → List (List Part) → Walk W (Unit {0})
   all_apart_from ps [] = pass tt
   all_apart_from ps (qs ∷ lists) = do
     found ← common_nearby tester ps qs
     elim found [ true ↦ stop taken_wrong | false ↦ all_apart_from ps lists ]
 
-  -- each two lots of one layer share no member
+  -- tests that each two lots of one layer share no member
   abbrev pub all_apart : {S : Type 0} → List (Lot S) → Walk W (Unit {0})
   all_apart [] = pass tt
   all_apart (l ∷ ls) = do
     all_apart_from l.parts (lot_parts (lots_of_layer l.layer ls))
     all_apart ls
 
-  -- each two live lots of one layer are shown to be apart
+  -- the count, and the tests that each two live lots of one layer share no member
   abbrev pub row_audit : {S : Type 0} → StateOf S → Walk W Reply
   row_audit s = do
     tester.count (count_in_layers near_pair (live_lots s.lots))

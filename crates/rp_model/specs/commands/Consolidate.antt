@@ -1,4 +1,4 @@
--- consolidate ID COUNT ID ..: one lot in the place of several.
+-- consolidate ID COUNT ID ..: consolidates several lots into one.
 use Rattle.std.specs.Prelude.{◌+◌, true, List, [], ◌∷◌, map, length}
 use Rattle.rp_geometry.specs.parts.Parts.{most_parts}
 use Rattle.rp_language.specs.Expression.{signature, consolidate_verb}
@@ -12,7 +12,7 @@ use Rattle.rp_model.specs.commands.Rules.{names_then, accepts}
 use Rattle.rp_model.specs.commands.Sets.{set_with_id, union_of, lot_of_set}
 use Rattle.rp_model.specs.states.State.{most_kept_parts, StateOf, layer_of_first, parts_under_lots, lots_replaced}
 
--- the checks on names, the two sizes, and then the parts one after the other are one lot
+-- the checks on names and the two sizes; then the parts of the lots, one list after another, become one lot
 abbrev pub row_consolidate : {S W : Type 0} → StateOf S → Label → List Label → Walk W Reply
 row_consolidate s new ids = check (check_consolidate s new ids) do
   check_size (length (joined_parts (map (λ x. parts_with_id s x) ids))) most_parts

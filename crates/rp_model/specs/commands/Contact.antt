@@ -10,7 +10,7 @@ use Rattle.rp_model.specs.commands.Reply.{Reply, yes_or_no}
 use Rattle.rp_model.specs.commands.Rules.{yes_where}
 
 module _ {W : Type 0} (tester : Tester W) where
-  -- whether two forms are in contact
+  -- answers whether two forms are in contact
   abbrev pub row_contact : List Part → List Part → Walk W Reply
   row_contact ps qs = do
     answer ← touch_in_full tester ps qs

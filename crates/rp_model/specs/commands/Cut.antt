@@ -1,4 +1,4 @@
--- cut ID EXPRESSION ID ID: two lots in the place of one.
+-- cut ID EXPRESSION ID ID: cuts one lot into two.
 use Rattle.std.specs.Prelude.{◌+◌, true, ◌==◌, List, [], ◌∷◌, length}
 use Rattle.rp_geometry.specs.sets.Sets.{IsWithin, Overlaps}
 use Rattle.rp_geometry.specs.sets.Shape.{Shape, Part}
@@ -16,7 +16,7 @@ use Rattle.rp_model.specs.commands.Verdict.{empty_side}
 use Rattle.rp_model.specs.states.State.{most_kept_parts, StateOf, layer_with_id, parts_in, parts_under_lots, lots_replaced, State}
 
 module _ {W : Type 0} (tester : Tester W) where
-  -- the checks on names, the inner side, the outer side, the size
+  -- the checks on names, the inner side, the outer side, and the size
   abbrev pub row_cut : {S : Type 0} → StateOf S → Label → List Part → Label → Label → Walk W Reply
   row_cut s x ps first second = check (check_cut s x first second) do
     inner ← join tester (parts_with_id s x) ps
@@ -26,7 +26,7 @@ module _ {W : Type 0} (tester : Tester W) where
         check_size (parts_under_lots s.lots + length inner + length outer) most_kept_parts
         pass (accepted (lots_replaced (x ∷ []) (new_lot (layer_with_id s x) first inner (x ∷ []) ∷ new_lot (layer_with_id s x) second outer (x ∷ []) ∷ [])))
 
--- the checks on names, the inner side, the outer side
+-- the rule: the checks on names, the inner side, the outer side
 abbrev pub rule_cut : State → Label → Shape → Label → Label → Rule
 rule_cut s x a first second =
     names_then (check_cut s x first second)

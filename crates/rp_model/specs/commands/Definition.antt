@@ -1,4 +1,4 @@
--- What defines a command: whether it may meet a limit, its row, its rule and what it changes.
+-- The definition of a command: whether it may meet a limit, its row, its rule and its change.
 use Rattle.std.specs.Prelude.{Bool, true, List, [], ◌∷◌}
 use Rattle.rp_geometry.specs.sections.Slice.{Slice}
 use Rattle.rp_geometry.specs.sets.Shape.{Shape, Part}
@@ -15,35 +15,35 @@ pub record Formed : Type 0 where
   pub parts : List Part
   pub slices : List Slice
 
--- no form
+-- the form of a command without such an expression
 abbrev pub nothing_formed : Formed
 nothing_formed = record { parts = []; slices = [] }
 
--- the definition of a command with operands of these kinds: whether it may meet a limit, its row, its rule (by the sets, and by the form of the expression of show, pieces and section) and what it changes once accepted
+-- the definition of a command with operands of the given kinds: whether it may meet a limit; its row; its rule, by the sets and by the form; its change
 pub record Definition (ks : List Kind) : Type 1 where
   pub may_meet_limit : Bool
   pub row : {S W : Type 0} → Tester W → StateOf S → Operands ks → Walk W Reply
   pub rule : State → Formed → Operands ks → Rule
   pub change : State → Operands ks → Change Shape
 
--- a question about one expression: its row by the parts of the expression's form
+-- a question about one expression: its row, by the parts of the form, and its rule
 pub record AsksForm : Type 1 where
   pub row : {W : Type 0} → Tester W → List Part → Walk W Reply
   pub rule : Formed → Shape → Rule
 
--- a question about two expressions
+-- a question about two expressions: its row, by the parts of both forms, and its rule
 pub record AsksForms : Type 1 where
   pub row : {W : Type 0} → Tester W → List Part → List Part → Walk W Reply
   pub rule : Shape → Shape → Rule
 
 module _ {W : Type 0} (tester : Tester W) where
-  -- one form and then a row
+  -- makes the form of an expression, and then walks a row
   abbrev pub with_form : Meaning (List Part) → Expression → (List Part → Walk W Reply) → Walk W Reply
   with_form m e row = do
     ps ← form tester m e
     row ps
 
-  -- two forms and then a row
+  -- makes the forms of two expressions, and then walks a row
   abbrev pub with_forms : Meaning (List Part) → Expression → Expression → (List Part → List Part → Walk W Reply) → Walk W Reply
   with_forms m e f row = do
     ps ← form tester m e

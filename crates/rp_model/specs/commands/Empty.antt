@@ -10,7 +10,7 @@ use Rattle.rp_model.specs.commands.Reply.{Reply, yes_or_no}
 use Rattle.rp_model.specs.commands.Rules.{yes_where}
 
 module _ {W : Type 0} (tester : Tester W) where
-  -- no part, or else the strict test of the first part again
+  -- answers yes if there is no part; otherwise no, and a strict test shows that the first part has a member
   abbrev pub row_empty : List Part → Walk W Reply
   row_empty ps = do
     answer ← show_then_no tester ps

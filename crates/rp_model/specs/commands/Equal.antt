@@ -11,7 +11,7 @@ use Rattle.rp_model.specs.commands.Rules.{yes_where}
 use Rattle.rp_model.specs.commands.Within.{row_within}
 
 module _ {W : Type 0} (tester : Tester W) where
-  -- whether each is within the other
+  -- answers whether each of two forms is within the other
   abbrev pub row_equal : List Part → List Part → Walk W Reply
   row_equal ps qs = do
     there ← is_covered tester ps qs

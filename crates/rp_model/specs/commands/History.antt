@@ -1,4 +1,4 @@
--- history ID: the lots from which a lot comes and those that come from it.
+-- history ID: a lot and all lots from which it was made.
 use Rattle.std.specs.Prelude.{false, ◌∷◌, length}
 use Rattle.rp_language.specs.Expression.{signature, history_verb}
 use Rattle.rp_language.specs.Name.{Label}
@@ -10,12 +10,12 @@ use Rattle.rp_model.specs.commands.Rules.{Rule, answers, names_then}
 use Rattle.rp_model.specs.commands.Verdict.{Verdict, lot_lines}
 use Rattle.rp_model.specs.states.State.{StateOf, lineage, nothing_changes, State}
 
--- the lineage of an id that was ever registered
+-- the row: the lineage of an id that was ever registered
 abbrev pub row_history : {S W : Type 0} → StateOf S → Label → Walk W Reply
 row_history s x = check (check_registered s x)
     (pass (reply_lines (Verdict.lots (length (lineage x s.lots)) ∷ lot_lines (lineage x s.lots))))
 
--- the lineage of a known id
+-- the rule: the lineage of an id that was ever registered
 abbrev pub rule_history : State → Label → Rule
 rule_history s x = names_then (check_registered s x) (answers (Verdict.lots (length (lineage x s.lots)) ∷ lot_lines (lineage x s.lots)))
 

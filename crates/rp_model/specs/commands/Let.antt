@@ -11,7 +11,7 @@ use Rattle.rp_model.specs.commands.Rules.{names_then, accepts}
 use Rattle.rp_model.specs.commands.Sets.{set_of}
 use Rattle.rp_model.specs.states.State.{most_kept_parts, most_names, StateOf, parts_in, parts_under_names, name_added}
 
--- known, the two sizes, and then the form is kept under the name
+-- the check on the name, the two sizes; then the form is stored under the name
 abbrev pub row_define : {S W : Type 0} → StateOf S → Label → List Part → Walk W Reply
 row_define s x ps = check (check_name s x) do
   check_size (length s.names + 1) most_names

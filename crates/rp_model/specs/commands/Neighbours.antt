@@ -16,32 +16,32 @@ use Rattle.rp_model.specs.commands.Verdict.{neighbour_lines}
 use Rattle.rp_model.specs.states.State.{Lot, StateOf, other_live_lots_of_layer, nothing_changes, State}
 
 module _ {W : Type 0} (tester : Tester W) where
-  -- the ids found so far, and that of a lot if it touches the parts
+  -- appends the id of a lot, if it is in contact with the parts, to the ids found so far
   abbrev pub touched_lot : {S : Type 0} → List Label → List Part → Lot S → Walk W (List Label)
   touched_lot found ps l = do
     touches ← touch_nearby tester ps l.parts
     pass (elim touches [ true ↦ found ++ l.id ∷ [] | false ↦ found ])
 
-  -- the ids found so far, and those of the lots of a list that touch the parts
+  -- appends the ids of the lots of a list that are in contact with the parts to the ids found so far
   abbrev pub touched_lots : {S : Type 0} → List Label → List Part → List (Lot S) → Walk W (List Label)
   touched_lots found ps [] = pass found
   touched_lots found ps (l ∷ ls) = do
     more ← touched_lot found ps l
     touched_lots more ps ls
 
-  -- the lot must be live; the other live lots of its layer that touch it
+  -- the row: the lot must be live; the other live lots of its layer that are in contact with it
   abbrev pub row_neighbours : {S : Type 0} → StateOf S → Label → Walk W Reply
   row_neighbours s x = check (check_live s x) do
     tester.count (count_with_each touching_pair (parts_with_id s x) (lot_parts (other_live_lots_of_layer s x)))
     found ← touched_lots [] (parts_with_id s x) (other_live_lots_of_layer s x)
     pass (reply_lines (neighbour_lines found))
 
--- the ids are those of the lots of which the fact holds, in order
+-- the ids are those of the lots with the property, in order
 abbrev pub AreSelected : (Lot Shape → Type 0) → List (Lot Shape) → List Label → Type 0
 AreSelected P [] ids = ids ≡ []
 AreSelected P (l ∷ ls) ids = ((others : List Label) × P l × (ids ≡ l.id ∷ others) × AreSelected P ls others) ⊎ ((¬ P l) × AreSelected P ls ids)
 
--- the other live lots of the layer of the lot, in contact with it
+-- the rule: the other live lots of the layer of the lot that are in contact with it
 abbrev pub rule_neighbours : State → Label → Rule
 rule_neighbours s x =
     names_then (check_live s x)

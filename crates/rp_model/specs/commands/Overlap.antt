@@ -10,7 +10,7 @@ use Rattle.rp_model.specs.commands.Reply.{Reply, yes_or_no}
 use Rattle.rp_model.specs.commands.Rules.{yes_where}
 
 module _ {W : Type 0} (tester : Tester W) where
-  -- whether two forms share a member
+  -- answers whether two forms share a member
   abbrev pub row_overlap : List Part → List Part → Walk W Reply
   row_overlap ps qs = do
     answer ← common_in_full tester ps qs

@@ -12,7 +12,7 @@ use Rattle.rp_model.specs.commands.Rules.{Rule, answers, refused_where}
 use Rattle.rp_model.specs.commands.Verdict.{Verdict, empty_region}
 
 module _ {W : Type 0} (tester : Tester W) where
-  -- both must have a part; then their relation
+  -- the row: both forms must have a part; then their relation
   abbrev pub row_relation : List Part → List Part → Walk W Reply
   row_relation [] qs = pass (refusal (empty_region 1))
   row_relation (p ∷ ps) [] = pass (refusal (empty_region 2))
@@ -20,7 +20,7 @@ module _ {W : Type 0} (tester : Tester W) where
     r ← relation_of_parts tester (p ∷ ps) (q ∷ qs)
     pass (reply (Verdict.relation r))
 
--- both sets have a member, and then their one relation
+-- the rule: both sets must have a member; then their one relation
 abbrev pub rule_relation : Shape → Shape → Rule
 rule_relation a b =
     refused_where (IsEmpty a) (empty_region 1)

@@ -16,14 +16,14 @@ use Rattle.rp_model.specs.commands.Verdict.{empty, overlaps}
 use Rattle.rp_model.specs.states.State.{most_kept_parts, Lot, StateOf, present_lots, parts_in, parts_under_lots, lots_replaced, State}
 
 module _ {W : Type 0} (tester : Tester W) where
-  -- the first lot of a list that shares a member with the parts
+  -- the id of the first lot of a list that shares a member with the parts
   abbrev pub first_overlapped : {S : Type 0} → List Part → List (Lot S) → Walk W (Option Label)
   first_overlapped ps [] = pass None
   first_overlapped ps (l ∷ ls) = do
     found ← common_nearby tester ps l.parts
     elim found [ true ↦ pass (Some l.id) | false ↦ first_overlapped ps ls ]
 
-  -- known, empty, the size, the count, and then the first live lot of the present layer that overlaps
+  -- the checks on the id and for a part, the size, the count, and then the first live lot of the present layer that overlaps
   abbrev pub row_register : {S : Type 0} → StateOf S → Label → List Part → Walk W Reply
   row_register s x ps = check (and_then (check_new s x) (refuse_if (length ps == 0) empty)) do
     check_size (parts_under_lots s.lots + length ps) most_kept_parts
@@ -31,12 +31,12 @@ module _ {W : Type 0} (tester : Tester W) where
     found ← first_overlapped ps (present_lots s)
     check (option_map overlaps found) (pass (accepted (lots_replaced [] (new_lot s.layer x ps [] ∷ []))))
 
--- refused at the first lot that overlaps the set
+-- the rule refuses at the first lot of a list that overlaps the set; without one, the rest of the rule decides
 abbrev pub refused_at_overlap : List (Lot Shape) → Shape → Rule → Rule
 refused_at_overlap [] a rest = rest
 refused_at_overlap (l ∷ ls) a rest = refused_where (Overlaps l.set a) (overlaps l.id) (refused_at_overlap ls a rest)
 
--- known, empty, the first live lot of the present layer that overlaps
+-- the rule: a new id, a set with a member, and no live lot of the present layer that overlaps
 abbrev pub rule_register : State → Label → Shape → Rule
 rule_register s x a = names_then (check_new s x) (refused_where (IsEmpty a) empty (refused_at_overlap (present_lots s) a accepts))
 

@@ -9,7 +9,7 @@ use Rattle.rp_model.specs.commands.Reply.{Reply, accepted, check}
 use Rattle.rp_model.specs.commands.Rules.{names_then, accepts}
 use Rattle.rp_model.specs.states.State.{StateOf, lots_replaced}
 
--- a lot that is live ends
+-- the row: a live lot ends
 abbrev pub row_retire : {S W : Type 0} → StateOf S → Label → Walk W Reply
 row_retire s x = check (check_live s x) (pass (accepted (lots_replaced (x ∷ []) [])))
 

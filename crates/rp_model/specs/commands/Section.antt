@@ -10,7 +10,7 @@ use Rattle.rp_model.specs.commands.Verdict.{section_lines}
 use Rattle.rp_model.specs.states.State.{parts_in, nothing_changes}
 
 module _ {W : Type 0} (tester : Tester W) where
-  -- the slices of a form's parts, in order
+  -- the slices of the parts of a form at height z, in order
   abbrev pub row_section : ℤ → List Part → Walk W Reply
   row_section z ps = do
     slices ← tester.slices z ps

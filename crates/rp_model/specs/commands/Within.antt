@@ -10,7 +10,7 @@ use Rattle.rp_model.specs.commands.Reply.{Reply, yes_or_no}
 use Rattle.rp_model.specs.commands.Rules.{yes_where}
 
 module _ {W : Type 0} (tester : Tester W) where
-  -- whether the first is within the second
+  -- answers whether the first form is within the second
   abbrev pub row_within : List Part → List Part → Walk W Reply
   row_within ps qs = do
     answer ← is_covered tester ps qs

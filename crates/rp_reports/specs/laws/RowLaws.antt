@@ -1,4 +1,4 @@
--- The laws over the row of a command, as statements: walked with any tester that answers rightly, its verdict lines are those that the rule of sets wants, and its change is one that a sound state takes.
+-- The laws over the row of a command, as statements about any tester that answers rightly. The verdict lines of the row are those that the rule of sets needs, and its change is one that a sound state accepts.
 use Rattle.std.specs.Prelude.{◌≡◌, ℕ, ◌+◌, ◌≤◌, false, not, IsTrue, List, map, length, filter, sum_by}
 use Rattle.std.specs.List.{AllByRecursion}
 use Rattle.rp_language.specs.Name.{Label, is_among}
@@ -31,19 +31,19 @@ LineTesterIsRight = AnswersRightly IsCheckedPart line_tester
 abbrev pub FormHasTheMembers : Type 0
 FormHasTheMembers = (s : State) → IsSound s → (e : Expression) → IsKeptExpression e → (w : Work) → IfDone (form first_tester (parts_in s) e w) (λ made. AreOf IsPart (resolve_names (sets_in s) e) made)
 
--- in a sound state the verdict lines of a row that is not stopped are those that the rule of sets wants
+-- in a sound state the verdict lines of a row that is not stopped are those that the rule of sets needs
 abbrev pub VerdictsMeetRule : {W : Type 0} → (Part → Type 0) → Tester W → Type 0
 VerdictsMeetRule {W = W} P t = (s : State) → IsSoundWith P s → (c : Command) → AllByRecursion IsKeptExpression (expressions_of c) → (w : W) →
     IfDone (row t s c w) (λ r. rule_without_limits s (formed_by t s c w) c r.verdicts)
 
--- in a sound state the verdict of the row is the one that the rule of sets wants, and the only one
+-- in a sound state the verdict of the row is the one that the rule of sets needs, and the only one
 abbrev pub RowMeetsRule : Type 0
 RowMeetsRule = (s : State) → IsSound s → (v : Version) (line : List ℕ) (c : Command) → reading v line ≡ command c →
     rule_of s c (verdicts_walked (walked s c)) × ((given : List Verdict) → rule_of s c given → given ≡ verdicts_walked (walked s c))
 
 -- ---- changes
 
--- each list of parts that a change keeps has the members of the set that stands beside it
+-- each list of parts that a change stores has the members of the set next to it
 abbrev pub NewPartsAreOf : (Part → Type 0) → Change Shape → Type 0
 NewPartsAreOf P nothing_changes = Unit {0}
 NewPartsAreOf P (name_added k) = AreOf P k.set k.parts
@@ -55,14 +55,14 @@ abbrev pub NewPartsAreRight : {W : Type 0} → (Part → Type 0) → Tester W �
 NewPartsAreRight {W = W} P t = (s : State) → IsSoundWith P s → (c : Command) → AllByRecursion IsKeptExpression (expressions_of c) → (w : W) →
     IfDone (row t s c w) (λ r. NewPartsAreOf P (with_parts (change_of s c) r.change))
 
--- a name that a sound state takes: it is new, its parts have the members of its set, and the sizes keep the limits
+-- a name that a sound state accepts: it is new, its parts have the members of its set, and the sizes are within the limits
 pub record IsSoundName (P : Part → Type 0) (s : State) (k : Kept Shape) : Type 0 where
   pub parts : AreOf P k.set k.parts
   pub fresh : is_among k.name (names_of s.names) ≡ false
   pub few_names : length s.names + 1 ≤ most_names
   pub few_parts : parts_under_names s.names + length k.parts ≤ most_kept_parts
 
--- lots that a sound state takes in the place of those that end: their parts have the members of their sets, none is empty, no two of them and none of them and a live lot of its layer that stays have a common member, their ids are new, they come from lots of their layer that are there, and the size keeps the limit
+-- lots that a sound state accepts in place of those that end: parts with the members of their sets; no empty set; no common member among them or with a live lot of their layer that stays; new ids; origins in their layer; sizes within the limits
 pub record AreSoundLots (P : Part → Type 0) (s : State) (ids : List Label) (new : List (NewLot Shape)) : Type 0 where
   pub parts : AllByRecursion (λ l. AreOf P l.set l.parts) new
   pub nonempty : AllByRecursion (λ l. IsNonempty l.set) new
@@ -74,24 +74,24 @@ pub record AreSoundLots (P : Part → Type 0) (s : State) (ids : List Label) (ne
   pub origins_of_layer : AllByRecursion (λ l. AreOfLayer s.lots l.layer l.origins) new
   pub few_parts : parts_under_lots s.lots + sum_by (λ l. length l.parts) new ≤ most_kept_parts
 
--- a change that a sound state takes
+-- a change that a sound state accepts
 abbrev pub IsSoundChange : (Part → Type 0) → State → Change Shape → Type 0
 IsSoundChange P s nothing_changes = Unit {0}
 IsSoundChange P s (name_added k) = IsSoundName P s k
 IsSoundChange P s (lots_replaced ids new) = AreSoundLots P s ids new
 IsSoundChange P s (layer_changed y) = Unit {0}
 
--- a reply whose verdict lines are those that the rule wants, and whose change is one that a sound state takes
+-- a reply whose verdict lines are those that the rule needs, and whose change the sound state accepts
 abbrev pub IsRightReply : (Part → Type 0) → State → Change Shape → Rule → Reply → Type 0
 IsRightReply P s change rule r = rule r.verdicts × IsSoundChange P s (with_parts change r.change)
 
--- in a sound state the reply of a row that is not stopped has the verdict lines that the rule of sets wants, and a change that the state takes
+-- in a sound state the reply of a row that is not stopped has the verdict lines that the rule of sets needs, and a change that the state accepts
 abbrev pub RowIsRight : {W : Type 0} → (Part → Type 0) → Tester W → Type 0
 RowIsRight {W = W} P t = (s : State) → IsSoundWith P s → (c : Command) → AllByRecursion IsKeptExpression (expressions_of c) → (w : W) →
     IfDone (row t s c w) (IsRightReply P s (change_of s c) (rule_without_limits s (formed_by t s c w) c))
 
 -- ---- the check
 
--- in a sound state the verdict lines of a row that is not stopped are true, as a report tells them: by sets alone
+-- in a sound state the verdict lines of a row that is not stopped are true by sets alone, as a report has them
 abbrev pub VerdictsAreTrue : {W : Type 0} → (Part → Type 0) → Tester W → Type 0
 VerdictsAreTrue {W = W} P t = (s : State) → IsSoundWith P s → (c : Command) → AllByRecursion IsKeptExpression (expressions_of c) → AllByRecursion IsHeight (heights_of c) → (w : W) → IfDone (row t s c w) (λ r. true_rule s c r.verdicts)
