@@ -2,7 +2,8 @@ ghost use Rattle.std.specs.Prelude.{◌≤◌, length};
 
 use crate::shapes::{half, tetrahedron};
 use rp_clip::{Clip, inside_on_polygons, weak_on_polygon};
-use rp_space::Half;
+use rp_space::{Half, IntBox, box_halves};
+use std::process::Abort;
 
 #[test]
 fn a_tetrahedron_has_its_four_corners(rt: HostRuntime) {
@@ -28,6 +29,58 @@ fn a_tetrahedron_has_its_four_corners(rt: HostRuntime) {
     assert_eq!(rt; weak.numbers(), (0, 0, 0, 1));
     clip.clear();
     assert_eq!(rt; clip.corners().len(), 8);
+}
+
+/// Adds half-spaces for which there is room.
+fn add_all(rt: &impl Abort, clip: &mut Clip<64>, halves: &[Half]) {
+    for half in halves {
+        assert!(rt; clip.halves().len() < 64);
+        assert!(rt; clip.add(*half));
+    }
+}
+
+#[test]
+fn a_box_has_its_eight_corners(rt: HostRuntime) {
+    let bounds = IntBox {
+        lo: [1, 2, 3],
+        hi: [4, 5, 6],
+    };
+    let sides = box_halves(&bounds);
+    let mut clip = Clip::<64>::cube();
+    add_all(&rt, &mut clip, &sides);
+    assert_eq!(rt; clip.corners().len(), 8);
+    let weak = clip.first_weak().expect(&rt, "no weak point");
+    assert_eq!(rt; weak.numbers(), (1, 2, 3, 1));
+    // The plane of a side once more, from either half-space, and one that is outside.
+    add_all(&rt, &mut clip, &[sides[0], half(&rt, (0, 0, 1, 9))]);
+    assert_eq!(rt; clip.corners().len(), 8);
+    add_all(&rt, &mut clip, &[sides[5].not()]);
+    assert_eq!(rt; clip.corners().len(), 4);
+    // One that cuts off all that is left.
+    add_all(&rt, &mut clip, &[half(&rt, (1, 0, 0, -9))]);
+    assert_eq!(rt; clip.corners().len(), 0);
+}
+
+#[test]
+fn an_upright_body_is_cut_between_two_heights(rt: HostRuntime) {
+    // The triangle below x + 2y = 7, between the heights 3/2 and 2.
+    let walls = [
+        half(&rt, (1, 0, 0, 0)),
+        half(&rt, (0, 1, 0, 0)),
+        half(&rt, (-1, -2, 0, 7)),
+    ];
+    let mut clip = Clip::<64>::cube();
+    add_all(&rt, &mut clip, &walls);
+    add_all(
+        &rt,
+        &mut clip,
+        &[half(&rt, (0, 0, 2, -3)), half(&rt, (0, 0, -1, 2))],
+    );
+    assert_eq!(rt; clip.corners().len(), 6);
+    let inside = clip.first_inside().expect(&rt, "no certificate");
+    let points = inside.items();
+    assert_eq!(rt; points[0].numbers(), (0, 0, 3, 2));
+    assert_eq!(rt; points[1].numbers(), (0, 0, 2, 1));
 }
 
 /// Returns whether the polygons of `cell`, of at most 64 half-spaces, show its first inside points and its first weak

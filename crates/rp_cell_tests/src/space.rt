@@ -2,8 +2,9 @@ use crate::shapes::half;
 use rp_lists::{Copied, Name, Numbers};
 use rp_space::{
     Half, Inside, IntBox, Outside, Pair, Point, Term, box_halves, cube, greatest_common_divisor,
-    is_balanced, is_contradiction, is_multiplier, joined, meet, quotient, with_cube,
+    is_balanced, is_contradiction, is_multiplier, joined, meet, meeting_of, quotient, with_cube,
 };
+use std::process::Abort;
 
 #[test]
 fn a_name_gives_its_bytes(rt: HostRuntime) {
@@ -91,6 +92,30 @@ fn three_planes_meet_in_lowest_terms(rt: HostRuntime) {
     assert_eq!(rt; meeting.side(&Half::default()), 12);
     assert_eq!(rt; meeting.numbers(), (12, 16, 2, 8));
     assert_eq!(rt; meeting.point().numbers(), (6, 8, 1, 4));
+}
+
+/// Returns the four numbers of the point in which three planes meet, in lowest terms.
+fn met(rt: &impl Abort, f: &Half, g: &Half, h: &Half) -> (i128, i128, i128, i128) {
+    let meeting = meeting_of(f, g, h).expect(rt, "no point");
+    meeting.point().numbers()
+}
+
+#[test]
+fn a_level_plane_meets_upright_ones(rt: HostRuntime) {
+    // 2x + y = 3, y = 2 and 4z = 1, with either sign and at each place of the three.
+    let turned = half(&rt, (2, 1, 0, -3));
+    let square = half(&rt, (0, -1, 0, 2));
+    let level = half(&rt, (0, 0, -4, 1));
+    let point = (2, 8, 1, 4);
+    assert_eq!(rt; met(&rt, &turned, &square, &level), point);
+    assert_eq!(rt; met(&rt, &square, &turned, &level.not()), point);
+    assert_eq!(rt; met(&rt, &level, &turned, &square.not()), point);
+    assert_eq!(rt; met(&rt, &square, &level, &turned), point);
+    assert!(rt; meeting_of(&turned, &turned.not(), &level).is_none());
+    assert!(rt; meeting_of(&turned, &square, &turned).is_none());
+    // Behind a slanted plane the three meet elsewhere: x + y + z = 1.
+    let slanted = half(&rt, (1, 1, 1, -1));
+    assert_eq!(rt; met(&rt, &slanted, &square, &level), (-5, 8, 1, 4));
 }
 
 #[test]

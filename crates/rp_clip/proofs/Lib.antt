@@ -16,6 +16,7 @@ pub mod Added
 pub mod Off
 pub mod Ordered
 pub mod FirstOfSet
+mod Behind
 pub mod Best
 -- the first certificates
 pub mod Flat

@@ -1,13 +1,14 @@
 //! The first vertex of a table, in the order of the first three places of each vertex.
-ghost use Rattle.std.specs.Prelude.{◌≡◌, ◌<◌, true, IfSome, IfNone, Some};
-ghost use Rattle.std.specs.Int.{trailing_zeros, w128};
-ghost use Rattle.rp_clip.specs.Firsts.{AreOn, HasFirst, IsBetter, IsFirstAt};
+ghost use Rattle.std.specs.Prelude.{◌≡◌, true, IfSome, IfNone, Some};
+ghost use Rattle.rp_clip.specs.Firsts.{AreOn, HasFirst, HasNoneBefore, IsBetter, IsFirstAt};
+ghost use Rattle.rp_clip.specs.Masks.{HasLowPlaces};
 ghost use Rattle.rp_clip.specs.Meetings.{IsVertexSet};
 ghost use Rattle.rp_clip.specs.declared.first.Found.{Found};
 
 use crate::meet::{Basis, first_basis};
 use crate::planes::Planes;
 use crate::table::Table;
+use rp_space::lowest_from;
 
 /// A vertex of a table and its first three places.
 #[derive(Clone, Copy)]
@@ -66,13 +67,37 @@ fn better(
     Some(Found { index, basis })
 }
 
-/// Returns true only if the lowest place of `mask`, which is the first of its three, is after the first place of
-/// `best`. Most vertices differ here.
+/// Returns true only if the three lowest places of a vertex show that its first three are not before those of the best.
+/// Most vertices differ here.
 fn is_behind(best: Option<Found>, mask: u128) -> bool
-    ensures { result ≡ true → (f : Found) × (best ≡ Some f) × (f.basis.first < trailing_zeros w128 mask) }
+    requires { HasLowPlaces mask }
+    ensures { result ≡ true → (f : Found) × (best ≡ Some f) × HasNoneBefore mask f.basis }
 {
     match best {
-        Some(found) => mask.trailing_zeros() > found.basis.first,
+        Some(found) => has_none_before(mask, &found.basis),
         None => false,
+    }
+}
+
+/// Returns whether the three lowest places of a set are not before those of a basis, or there are no three.
+fn has_none_before(set: u128, basis: &Basis) -> bool
+    requires { HasLowPlaces set }
+    ensures { result ≡ true → HasNoneBefore set basis.now }
+{
+    let Some(first) = lowest_from(set, 0) else {
+        return true;
+    };
+    if first != basis.first {
+        return first > basis.first;
+    }
+    let Some(second) = lowest_from(set, first + 1) else {
+        return true;
+    };
+    if second != basis.second {
+        return second > basis.second;
+    }
+    match lowest_from(set, second + 1) {
+        Some(third) => third >= basis.third,
+        None => true,
     }
 }

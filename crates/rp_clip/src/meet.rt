@@ -6,7 +6,7 @@ ghost use Rattle.rp_clip.specs.Masks.{HasHalfSpaces, HasLowPlaces};
 ghost use Rattle.rp_clip.specs.Meetings.{IsFirstMet, MeetNowhere, IsFirstMetWith, MeetNowhereWith, IsFirstOfSet, HasNoBasis, IsVertexSet, IsThree};
 
 use crate::planes::Planes;
-use rp_space::{Half, Meeting, Pair, lowest_from};
+use rp_space::{Half, Meeting, lowest_from, meeting_of};
 
 /// Two places whose planes meet a third one in one point, and this point.
 #[derive(Drop)]
@@ -44,7 +44,7 @@ fn meeting_with(planes: &Planes, set: u128, first: u32, h: &Half) -> Option<Met>
     let f = planes.at(first);
     let mut next = lowest_from(set, first + 1);
     while let Some(second) = next {
-        let found = Pair::new(&f, &planes.at(second)).meeting(h);
+        let found = meeting_of(&f, &planes.at(second), h);
         if let Some(at) = found {
             return Some(Met { first, second, at });
         }

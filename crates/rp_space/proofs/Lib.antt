@@ -5,6 +5,7 @@ mod Bounded
 mod Compared
 mod Cramer
 mod Kept
+mod Level
 mod Negative
 pub mod Positive
 mod Sides

@@ -1,6 +1,7 @@
 pub mod Boxes
 pub mod Corners
 pub mod FourNumbers
+pub mod LevelAndUpright
 pub mod MadeHalfSpace
 pub mod MadePoint
 pub mod PairMinors

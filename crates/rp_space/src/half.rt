@@ -2,6 +2,7 @@
 ghost use Rattle.std.specs.Prelude.{◌≡◌, ◌<◌, ◌^◌, true, false, pos, ◌≤ℤ◌, [], ◌∷◌};
 ghost use Rattle.rp_algebra.specs.Integer.{gcd_of, is_zero};
 ghost use Rattle.rp_geometry.specs.Geometry.{half_space_of, side_value, owns_boundary, holds, complement, is_within_bound, is_half_space_in_bounds, is_zero_half_space, reduced_half_space, IsHalfSpace, IsKeptHalfSpace, point_of, IsSmallPoint};
+ghost use Rattle.rp_space.specs.LevelAndUpright.{IsLevel};
 ghost use Rattle.rp_space.specs.MadeHalfSpace.{made_half_space};
 
 use crate::divisor::{common_divisor, short_quotient};
@@ -113,6 +114,20 @@ impl Half {
         (self.a, self.b, self.c, self.d)
     }
 
+    /// Returns whether the first two coefficients are 0, as they are where the boundary plane is level.
+    pub(crate) fn is_level(&self) -> bool
+        ensures { result ≡ true → IsLevel self.now }
+    {
+        self.a == 0 && self.b == 0
+    }
+
+    /// Returns whether the third coefficient is 0, as it is where the boundary plane is upright.
+    pub(crate) fn is_upright(&self) -> bool
+        ensures { result ≡ true → self.now.c ≡ pos 0 }
+    {
+        self.c == 0
+    }
+
     /// Returns the side value at `p`: positive inside, 0 on the boundary plane, negative outside. Its size is below
     /// 2^127.
     pub fn side(&self, p: &Point) -> i128
@@ -127,7 +142,15 @@ impl Half {
         requires { IsSmallPoint (point_of x y z w) }
         ensures { result ≡ side_value self.now (point_of x y z w) }
     {
-        self.a as i128 * x + self.b as i128 * y + self.c as i128 * z + self.d as i128 * w
+        // No product is made that is 0 for a level or an upright plane.
+        let rest = self.d as i128 * w;
+        if self.is_level() {
+            return self.c as i128 * z + rest;
+        }
+        if self.is_upright() {
+            return self.a as i128 * x + self.b as i128 * y + rest;
+        }
+        self.a as i128 * x + self.b as i128 * y + self.c as i128 * z + rest
     }
 
     /// Returns whether the boundary plane belongs to the half-space: the first of a, b and c that is not 0 is positive.

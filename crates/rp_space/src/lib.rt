@@ -26,7 +26,7 @@ pub use bounds::{HALF_EDGE, IntBox, box_halves, cube};
 pub use corner::{Corner, Corners};
 pub use divisor::{greatest_common_divisor, quotient};
 pub use half::{Half, HalfFault, Halves};
-pub use meeting::{Meeting, Pair, meet};
+pub use meeting::{Meeting, Pair, meet, meeting_of};
 pub use multiples::{is_balanced, is_contradiction, is_multiplier};
 pub use outside::{Outside, Term};
 pub use places::{has_two, lowest_from};

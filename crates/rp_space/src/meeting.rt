@@ -1,10 +1,11 @@
 //! The common point of three planes, by Cramer's rule.
-ghost use Rattle.std.specs.Prelude.{◌≡◌, ◌*◌, ◌^◌, false, pos, Some, IfSome, option_map};
+ghost use Rattle.std.specs.Prelude.{◌≡◌, ◌*◌, ◌^◌, true, false, pos, Some, IfSome, option_map};
 ghost use Rattle.rp_algebra.specs.Integer.{is_zero};
 ghost use Rattle.rp_algebra.specs.Within.{IsWithin};
 ghost use Rattle.rp_geometry.specs.Geometry.{IsPoint, IsSmallPoint, point_of, reduced_point, side_value};
 ghost use Rattle.rp_geometry.specs.searches.Vertex.{det2, cramer_point, meeting_point};
 ghost use Rattle.rp_space.specs.PositivePoint.{positive_point};
+ghost use Rattle.rp_space.specs.LevelAndUpright.{IsLevelWithUpright};
 ghost use Rattle.rp_space.specs.ShortNumbers.{AreShort};
 ghost use Rattle.rp_space.specs.TwoHalfSpaces.{two_of};
 
@@ -18,6 +19,55 @@ pub fn meet(f: &Half, g: &Half, h: &Half) -> Option<Point>
     ensures { result ≡ meeting_point f.now g.now h.now }
 {
     Pair::new(f, g).meet(h)
+}
+
+/// Returns the common point of the planes of `f`, `g` and `h`, with a positive weight and not yet in lowest terms.
+/// The numbers are those that a [`Pair`] of the first two returns with the third.
+/// `None` iff the three planes do not have exactly one common point.
+///
+/// Fewer products are made if one plane is level and the others are upright, as at the corners of boxes and prisms.
+pub fn meeting_of(f: &Half, g: &Half, h: &Half) -> Option<Meeting>
+    ensures value { result ≡ positive_point (cramer_point f.now g.now h.now) }
+    ensures point { IfSome result IsPoint }
+    ensures in_lowest_terms { option_map reduced_point result ≡ meeting_point f.now g.now h.now }
+{
+    if is_level_with_upright(f, g, h) {
+        return meeting_on_level(f, g, h);
+    }
+    if is_level_with_upright(g, h, f) {
+        return meeting_on_level(g, h, f);
+    }
+    if is_level_with_upright(h, f, g) {
+        return meeting_on_level(h, f, g);
+    }
+    Pair::new(f, g).meeting(h)
+}
+
+/// Returns whether the planes of `f` and `g` are upright and that of `h` is level.
+fn is_level_with_upright(f: &Half, g: &Half, h: &Half) -> bool
+    ensures { result ≡ true → IsLevelWithUpright f.now g.now h.now }
+{
+    f.is_upright() && g.is_upright() && h.is_level()
+}
+
+/// Returns the common point of two upright planes and a level one.
+fn meeting_on_level(f: &Half, g: &Half, h: &Half) -> Option<Meeting>
+    requires { IsLevelWithUpright f.now g.now h.now }
+    ensures value { result ≡ positive_point (cramer_point f.now g.now h.now) }
+    ensures point { IfSome result IsPoint }
+{
+    let (fa, fb, _, fd) = f.numbers();
+    let (ga, gb, _, gd) = g.numbers();
+    let (_, _, c, d) = h.numbers();
+    let ab = minor(fa, fb, ga, gb);
+    let weight = c as i128 * ab;
+    if weight == 0 {
+        return None;
+    }
+    let x = c as i128 * minor(fb, fd, gb, gd);
+    let y = c as i128 * minor(ga, gd, fa, fd);
+    let z = -(d as i128 * ab);
+    Some(positive(x, y, z, weight))
 }
 
 /// A point such as the common point of three planes, with a positive weight and not yet in lowest terms. So a side
