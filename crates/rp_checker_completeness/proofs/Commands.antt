@@ -2,16 +2,15 @@
 use Rattle.std.proofs.Common.{◌≡◌, ℤ, Bool, true, false, ◌&&◌, List, [], ◌∷◌, length, Option, Some, None, refl, sym, ap, ◌∙◌}
 use Rattle.std.specs.Prelude.{option_map, is_none, IsTrue}
 use Rattle.std.specs.List.{AllByRecursion, list_all}
-use Rattle.rp_geometry.specs.Geometry.{HalfSpace, IsKeptHalfSpace}
+use Rattle.rp_geometry.specs.Geometry.{IsKeptHalfSpace}
 use Rattle.rp_language.specs.Name.{Label}
 use Rattle.rp_geometry.specs.sets.Prism.{Corner, Edge, edges_along, edges_of, is_corner_in_bounds, Prism, IsPrism}
-use Rattle.rp_geometry.specs.sets.Shape.{Part, is_member}
-use Rattle.rp_geometry.specs.parts.Trapezoid.{trapezoid}
+use Rattle.rp_geometry.specs.sets.Shape.{is_member}
 use Rattle.rp_geometry.specs.laws.PrismLaws.{TrapezoidIsKept}
 use Rattle.rp_semantics.specs.Walk.{done, pass, Tester}
 use Rattle.rp_language.specs.Expression.{Expression, half_space, box, prism, everything, nothing, named, lot, intersection, union, difference, complement, IsKeptExpression, Command, expressions_of, first_unknown_among, resolve_names}
 use Rattle.rp_language.specs.Expression.{ask_member, retire, ask_history, ask_at, ask_as_of, ask_audit, ask_list, set_layer, ask_section}
-use Rattle.rp_model.specs.states.State.{Kept, Lot, StateOf, PlainState, parts_in, live_lots, lots_of_layer, present_lots, alive_after, lineage, lots_replaced, layer_changed}
+use Rattle.rp_model.specs.states.State.{PlainState, parts_in, live_lots, lots_of_layer, present_lots, alive_after, lineage, lots_replaced, layer_changed}
 use Rattle.rp_model.specs.commands.Verdict.{Refusal, Verdict, unknown, lot_lines}
 use Rattle.rp_model.specs.commands.Checks.{check_live, check_registered}
 use Rattle.rp_model.specs.commands.Reply.{Reply, reply, reply_lines, refusal, yes_or_no, accepted, check}
@@ -19,8 +18,8 @@ use Rattle.rp_model.specs.commands.Parts.{shapes_of_parts}
 use Rattle.rp_model.specs.commands.At.{owner_line}
 use Rattle.rp_model.specs.commands.Row.{row_of, row}
 use Rattle.rp_reports.specs.Check.{may_meet_limit, limit_allowed}
-use Rattle.rp_parametricity.proofs.Likeness.{EdgesHave, ExpressionHas, PartsHave}
-use Rattle.rp_parametricity.proofs.Kept.{IsOther, labels_of, EntryHas, LotHas, StateHas, CommandHas}
+use Rattle.rp_parametricity.proofs.Likeness.{EdgesHave, ExpressionHas}
+use Rattle.rp_parametricity.proofs.Kept.{IsOther}
 use Rattle.rp_algebra.proofs.Tests.{and_first, and_second}
 use Rattle.rp_geometry.proofs.Kept.{kept_box}
 pub use Rattle.rp_parametricity.proofs.Trivial.{Any, AnyLabel, any_cell, any_parts, any_labels, any_edges, any_expression, any_expressions, any_state, any_command}

@@ -4,7 +4,7 @@ use Rattle.std.specs.List.{AllByRecursion}
 use Rattle.rp_geometry.specs.sets.Prism.{edges_of}
 use Rattle.rp_language.specs.Name.{Label, is_name}
 use Rattle.rp_language.specs.Expression.{Expression, half_space, box, prism, everything, nothing, named, lot, intersection, union, difference, complement, Child, Command, Kind, name_kind, expression_kind, point_kind, height_kind, line_kind, equals_kind, names_kind, children_kind, Operand, Operands, signature, said, expressions_in, expressions_among}
-use Rattle.rp_language.specs.Grammar.{Place, Reader, Word, bad_syntax, command, reading, gives, fails, ◌>>=◌, ◌>>◌, next_word, named_word, name, keyword, count_between, counted, height, Version, point, half_space_numbers, box_numbers, prism_numbers, Node, half_node, box_node, all_node, none_node, name_node, lot_node, and_node, or_node, minus_node, not_node, prism_node, node_table, count_node, node_words, expression_within, expression, child, many, equals_word, end_of_line, Verb, verb_table, operand_read, operands_read, verb_words, command_words, words_of}
+use Rattle.rp_language.specs.Grammar.{Place, Reader, Word, bad_syntax, command, reading, gives, fails, ◌>>=◌, ◌>>◌, next_word, named_word, name, keyword, count_between, height, Version, point, half_space_numbers, box_numbers, prism_numbers, Node, half_node, box_node, all_node, none_node, name_node, lot_node, and_node, or_node, minus_node, not_node, prism_node, node_table, count_node, node_words, expression_within, expression, child, many, equals_word, end_of_line, Verb, verb_table, operand_read, operands_read, verb_words, command_words, words_of}
 use Rattle.rp_language.proofs.ReadAgain.{no_success}
 use Rattle.rp_language.proofs.ReadBounds.{Keeps, Anything, keeps_anything, keeps_given, keeps_then, keeps_one, keeps_two}
 use Rattle.rp_language.proofs.Spelling.{read_as}

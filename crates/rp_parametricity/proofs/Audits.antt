@@ -1,22 +1,18 @@
 -- An audit and a section over two testers, or over one: what the searches over pairs of lots come to is all that is asked.
-use Rattle.std.proofs.Common.{◌≡◌, ℤ, Bool, true, false, List, [], ◌∷◌, map, length, refl}
-use Rattle.std.specs.Prelude.{option_map}
+use Rattle.std.proofs.Common.{◌≡◌, ℤ, Bool, true, false, List, [], ◌∷◌, map, length}
 use Rattle.std.specs.List.{AllByRecursion}
 use Rattle.rp_geometry.specs.Geometry.{HalfSpace}
 use Rattle.rp_geometry.specs.sections.Slice.{Slice}
 use Rattle.rp_geometry.specs.sets.Shape.{Part}
 use Rattle.rp_language.specs.Name.{Label}
-use Rattle.rp_language.specs.Expression.{Expression, Command, ask_audit, ask_section, first_unknown_among, expressions_of}
-use Rattle.rp_semantics.specs.Walk.{Stop, taken_wrong, Outcome, done, stopped, Walk, stop, pass, after_first, ◌>>=◌, Tester}
+use Rattle.rp_language.specs.Expression.{Expression, Command, ask_audit, ask_section, first_unknown_among}
+use Rattle.rp_semantics.specs.Walk.{Stop, taken_wrong, stopped, Walk, stop, ◌>>=◌, Tester}
 use Rattle.rp_semantics.specs.Form.{common_nearby, near_pair}
-use Rattle.rp_semantics.specs.FormLaws.{IfDone}
 use Rattle.rp_model.specs.states.State.{Lot, StateOf, live_lots, lots_of_layer, parts_in}
 use Rattle.rp_model.specs.commands.Verdict.{Verdict, section_lines, unknown}
-use Rattle.rp_model.specs.commands.Reply.{Reply, reply, reply_lines, check}
+use Rattle.rp_model.specs.commands.Reply.{reply, reply_lines}
 use Rattle.rp_model.specs.commands.Parts.{lot_parts}
-use Rattle.rp_model.specs.commands.Audit.{count_in_layers, all_apart_from, all_apart, row_audit}
-use Rattle.rp_model.specs.commands.Section.{row_section}
-use Rattle.rp_model.specs.commands.Definition.{with_form}
+use Rattle.rp_model.specs.commands.Audit.{count_in_layers, all_apart_from, all_apart}
 use Rattle.rp_model.specs.commands.Row.{row}
 use Rattle.rp_parametricity.proofs.Likeness.{Anything, Likeness, PartsHave, Related}
 use Rattle.rp_parametricity.proofs.Forms.{after, form_alike, common_nearby_alike}

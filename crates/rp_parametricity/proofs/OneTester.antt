@@ -1,5 +1,5 @@
 -- One walk over one tester: any fact of what a walk comes to that is kept by results, by limits and by what comes behind.
-use Rattle.std.proofs.Common.{◌≡◌, ℕ, ℤ, Bool, List, Option, refl}
+use Rattle.std.proofs.Common.{ℕ, List, Option}
 use Rattle.rp_geometry.specs.Geometry.{HalfSpace}
 use Rattle.rp_geometry.specs.sets.Shape.{Part}
 use Rattle.rp_semantics.specs.Walk.{Stop, limit_met, Outcome, done, stopped, Walk, after_first, Tester}
@@ -8,11 +8,10 @@ use Rattle.rp_semantics.specs.Compare.{is_covered}
 use Rattle.rp_semantics.specs.FormLaws.{IfDone}
 use Rattle.rp_language.specs.Expression.{Command}
 use Rattle.rp_model.specs.states.State.{StateOf}
-use Rattle.rp_model.specs.commands.Reply.{Reply}
 use Rattle.rp_model.specs.commands.Row.{row}
-use Rattle.rp_parametricity.proofs.Likeness.{Anything, Likeness, PartsHave, MadeHas, Related}
+use Rattle.rp_parametricity.proofs.Likeness.{Anything, Likeness, MadeHas, Related}
 use Rattle.rp_parametricity.proofs.Forms.{join_alike, subtract_alike}
-use Rattle.rp_parametricity.proofs.Kept.{ReplyHas, IsOther}
+use Rattle.rp_parametricity.proofs.Kept.{IsOther}
 use Rattle.rp_parametricity.proofs.Trivial.{Any, AnyLabel, any_parts, any_state, any_command}
 use Rattle.rp_parametricity.proofs.Rows.{covered_alike, row_alike}
 

@@ -1,6 +1,5 @@
 -- Rows of a tester that is stopped by limits alone are stopped by limits alone.
-use Rattle.std.proofs.Common.{◌≡◌, ℕ, List, refl}
-use Rattle.rp_geometry.specs.Geometry.{HalfSpace}
+use Rattle.std.proofs.Common.{◌≡◌, List, refl}
 use Rattle.rp_geometry.specs.sets.Shape.{Part}
 use Rattle.rp_semantics.specs.Walk.{limit_met, Outcome, done, stopped, Tester}
 use Rattle.rp_semantics.specs.Form.{join}

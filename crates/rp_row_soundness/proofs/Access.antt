@@ -1,5 +1,5 @@
 -- Access between two lots: the links that weak tests find are those of contact, so that the levels and the chain along them are those of the lots.
-use Rattle.std.proofs.Common.{◌≡◌, ℕ, zero, suc, ◌+◌, ◌<◌, ◌≤◌, Bool, true, false, not, cond, ◌&&◌, ◌||◌, ◌⊎◌, inl, inr, ⊎_elim, List, [], ◌∷◌, ◌++◌, length, refl, ap, sym, ◌∙◌, subst, arith}
+use Rattle.std.proofs.Common.{◌≡◌, ℕ, zero, suc, ◌+◌, ◌<◌, ◌≤◌, Bool, true, false, not, cond, ◌&&◌, ◌||◌, ◌⊎◌, inl, inr, ⊎_elim, List, [], ◌∷◌, ◌++◌, length, refl, ap, sym, ◌∙◌, subst, arith, Option}
 use Rattle.std.proofs.lemmas.List.{append_assoc, length-map}
 use Rattle.std.proofs.lemmas.Bool.{or_cases, or_left, or_right, eqb-true, eq-eqb, cases_order}
 use Rattle.std.proofs.lemmas.Slice.Eq.{bytes_eq-Decides}
@@ -34,6 +34,15 @@ use Rattle.rp_chains.proofs.Levels.{levels_are_found_spec}
 use Rattle.rp_chains.proofs.Down.{chain_is_found_spec}
 use Rattle.rp_row_soundness.proofs.Outcomes.{names_done}
 use Rattle.rp_row_soundness.proofs.Neighbours.{live_of_layer_are_of}
+use Rattle.rp_language.specs.Expression.{ask_access, access_verb}
+use Rattle.rp_model.specs.commands.Definition.{nothing_formed}
+use Rattle.rp_model.specs.commands.Rule.{rule_after_labels}
+use Rattle.rp_chains.proofs.One.{levels_are_one_by_spec, chain_is_one_by_spec}
+use Rattle.rp_row_soundness.proofs.Stopped.{stopped_passed}
+use Rattle.rp_row_soundness.proofs.OneAnswer.{IsOneAtMost, one_after_names}
+use Rattle.rp_row_soundness.proofs.AfterForms.{asked}
+use Rattle.rp_row_soundness.proofs.Laws.{Meets}
+use Rattle.rp_row_soundness.proofs.Spoken.{IsSpoken, answers_speak, names_speak}
 
 -- ---- the items of a list that is numbered from some number
 
@@ -348,3 +357,23 @@ access_meets P t right s sound x y w =
     (links_among P t right 0 (layer_lots s x) (live_of_layer_are_of P s sound (layer_with_id s x)) [] v)
     (λ links u b. (links_tell (layer_lots s x) x y links below.0 below.1 (steps_are_contacts (layer_lots s x) links b), tt)))))
     (λ r k. k.0)
+
+-- the chain and the levels of some lots
+one_access : (ls : List (Lot Shape)) (x y : Label) → IsOneAtMost (tells_access ls x y)
+one_access ls x y given other (chosen, levels, is, are, e) (chosen_too, levels_too, is_too, are_too, f) =
+    e ∙ ap (λ o. access_lines (ids_of ls) o levels) (chain_is_one_by_spec (AreInContactAt ls) (place_among x (ids_of ls)) (place_among y (ids_of ls)) chosen chosen_too is is_too)
+    ∙ ap (λ ks. access_lines (ids_of ls) chosen_too ks) (levels_are_one_by_spec (AreInContactAt ls) (length ls) (place_among y (ids_of ls)) levels levels_too are are_too) ∙ sym f
+
+-- a chain, or that there is none
+access_speaks : (ids : List Label) (chosen : Option (List ℕ)) (levels : List (Option ℕ)) → IsSpoken (access_lines ids chosen levels)
+access_speaks ids None levels = tt
+access_speaks ids (Some places) levels = tt
+
+-- the laws of access
+pub access_laws : Meets access_verb
+access_laws = record {
+  replies = λ P t right s sound (x, (y, end)) kept w. asked P t right s sound (rule_after_labels s nothing_formed (ask_access x y)) (row_access t s x y w) (access_meets P t right s sound x y w);
+  passed = λ P t right s sound (x, (y, end)) kept w. stopped_passed (check_access s x y) _ w;
+  one = λ exclude pieces s formed h (x, (y, end)). one_after_names (check_access s x y) (tells_access (layer_lots s x) x y) (one_access (layer_lots s x) x y);
+  speaks = λ s formed (x, (y, end)). names_speak (check_access s x y) _ (λ given h. answers_speak _ (access_speaks _ h.0 h.1) given h.4);
+}

@@ -12,7 +12,7 @@ use Rattle.rp_model.specs.states.State.{most_kept_parts}
 use Rattle.rp_geometry.specs.parts.Parts.{most_parts, AreOf}
 use Rattle.rp_semantics.specs.Form.{join, subtract}
 use Rattle.rp_model.specs.states.State.{State, layer_with_id, layer_of_first, parts_under_lots, lots_replaced}
-use Rattle.rp_model.specs.commands.Verdict.{empty_side}
+use Rattle.rp_model.specs.commands.Verdict.{empty_side, says_ok}
 use Rattle.rp_model.specs.commands.Checks.{check_live, check_cut, check_consolidate, refuse_if}
 use Rattle.rp_model.specs.commands.Reply.{Reply, accepted, check, check_size}
 use Rattle.rp_model.specs.commands.Parts.{parts_with_id, joined_parts, new_lot}
@@ -20,8 +20,8 @@ use Rattle.rp_model.specs.commands.Retire.{row_retire}
 use Rattle.rp_model.specs.commands.Cut.{row_cut, rule_cut}
 use Rattle.rp_model.specs.commands.Consolidate.{row_consolidate}
 use Rattle.rp_model.specs.commands.Rules.{Rule, accepts, names_then, refused_where}
-use Rattle.rp_model.specs.commands.Sets.{lot_of_set, set_with_id, union_of}
-use Rattle.rp_model.specs.commands.Rule.{with_parts}
+use Rattle.rp_model.specs.commands.Sets.{lot_of_set, set_with_id, union_of, set_of}
+use Rattle.rp_model.specs.commands.Rule.{with_parts, rule_after_labels, change_of}
 use Rattle.rp_model.specs.states.Sound.{IsSoundWith}
 use Rattle.rp_semantics.specs.FormLaws.{IfDone}
 use Rattle.rp_semantics.specs.FormLaws.{WalksAreRight}
@@ -31,6 +31,14 @@ use Rattle.rp_geometry.proofs.SameMembers.{same_of_passes, same_itself, same_nex
 use Rattle.rp_row_soundness.proofs.Outcomes.{Replies, size_done, names_done, test_done}
 use Rattle.rp_row_soundness.proofs.Parts.{empty_if, nonempty_if}
 use Rattle.rp_row_soundness.proofs.Neighbours.{lot_is_of}
+use Rattle.rp_language.specs.Expression.{cut, cut_verb, consolidate_verb, retire_verb}
+use Rattle.rp_row_soundness.specs.Limits.{IfDoneWith, PassedByCut}
+use Rattle.rp_model.proofs.Refusals.{not_refused_if}
+use Rattle.rp_row_soundness.proofs.Stopped.{IfStopped, stopped_told, stopped_weaker, stopped_then, stopped_check, stopped_passed, never_stopped}
+use Rattle.rp_row_soundness.proofs.OneAnswer.{one_answer, one_where, one_after_names}
+use Rattle.rp_row_soundness.proofs.AfterForms.{one_form, form_stopped}
+use Rattle.rp_row_soundness.proofs.Laws.{Meets}
+use Rattle.rp_row_soundness.proofs.Spoken.{answers_speak, refused_speaks, names_speak}
 
 -- ---- retired
 
@@ -184,3 +192,73 @@ consolidate_meets {W = W} P s sound x ids w =
     each_list : (ys : List Label) → AreListsOf P (map (λ y. set_with_id s y) ys) (map (λ y. parts_with_id s y) ys)
     each_list [] = tt
     each_list (y ∷ ys) = (lot_is_of P s sound y, each_list ys)
+
+module _ {W : Type 0} (P : Part → Type 0) (t : Tester W) (right : WalksAreRight P t) (s : State) (sound : IsSoundWith P s) where
+  -- the names and the sides of a cut
+  cut_passed : (x : Label) (a : Shape) (ps : List Part) → AreOf P a ps → (first second : Label) (w : W) → IfStopped (row_cut t s x ps first second w) (PassedByCut t s x a ps first second w)
+  cut_passed x a ps h first second w =
+      stopped_check (PassedByCut t s x a ps first second w) (check_cut s x first second) _ w
+      (λ e. stopped_weaker (IfDoneWith (join t qs ps w) Inner) (PassedByCut t s x a ps first second w) _
+      (stopped_then (AreOf P (Shape.intersection (shape_of_parts qs) (shape_of_parts ps))) Inner (join t qs ps w) _ (right.joins qs ps k.all h.all w)
+      (λ inner v m. stopped_check (Inner inner v) (refuse_if (length inner == 0) (empty_side 1)) _ v
+      (λ d. stopped_weaker (IfDoneWith (subtract t qs ps v) Outer) (Inner inner v) _
+      (stopped_then (AreOf P (Shape.difference (shape_of_parts qs) (shape_of_parts ps))) Outer (subtract t qs ps v) _ (right.differences qs ps k.all h.all v)
+      (λ outer u n. stopped_check (Outer outer u) (refuse_if (length outer == 0) (empty_side 2)) _ u
+      (λ f. stopped_told _ (Outer outer u) (not_within outer n (not_refused_if (length outer == 0) (empty_side 2) f)))))
+      (λ o. (overlaps inner m (not_refused_if (length inner == 0) (empty_side 1) d), o)))))
+      (λ o. (e, o)))
+    where
+      whole : Shape
+      whole = set_with_id s x
+
+      qs : List Part
+      qs = parts_with_id s x
+
+      k : AreOf P whole qs
+      k = lot_is_of P s sound x
+
+      Outer : List Part → W → Type 0
+      Outer outer v = ¬ IsWithin whole a
+
+      Inner : List Part → W → Type 0
+      Inner inner v = Overlaps whole a × IfDoneWith (subtract t qs ps v) Outer
+
+      overlaps : (inner : List Part) → AreOf P (Shape.intersection (shape_of_parts qs) (shape_of_parts ps)) inner → (length inner == 0) ≡ false → Overlaps whole a
+      overlaps inner m d = overlaps_of_common whole a (nonempty_if P t right.tests (Shape.intersection whole a) inner (common_are_of P whole a qs ps inner k h m) d)
+
+      not_within : (outer : List Part) → AreOf P (Shape.difference (shape_of_parts qs) (shape_of_parts ps)) outer → (length outer == 0) ≡ false → ¬ IsWithin whole a
+      not_within outer n f i = let y = nonempty_if P t right.tests (Shape.difference whole a) outer (rest_are_of P whole a qs ps outer k h n) f in rest_of_within whole a i y.0 y.1
+
+-- ---- the laws of each
+
+-- cut
+pub cut_laws : Meets cut_verb
+cut_laws = record {
+  replies = λ P t right s sound (x, (e, (first, (second, end)))) kept w.
+      one_form P t right s sound e kept.0 (λ f. Replies P (change_of s (cut x e first second)) (rule_after_labels s f (cut x e first second))) (λ ps. row_cut t s x ps first second) w
+      (λ ps v h. cut_meets P t right s sound x (set_of s e) ps h first second v);
+  passed = λ P t right s sound (x, (e, (first, (second, end)))) kept w. form_stopped P t right s sound e kept.0 (λ ps v. PassedByCut t s x (set_of s e) ps first second v) _ w (λ ps v h. cut_passed P t right s sound x (set_of s e) ps h first second v);
+  one = λ exclude pieces s formed h (x, (e, (first, (second, end)))).
+      one_after_names (check_cut s x first second) (refused_where (¬ Overlaps (set_with_id s x) (set_of s e)) (empty_side 1) (refused_where (IsWithin (set_with_id s x) (set_of s e)) (empty_side 2) accepts))
+      (one_where (¬ Overlaps (set_with_id s x) (set_of s e)) (empty_side 1) (refused_where (IsWithin (set_with_id s x) (set_of s e)) (empty_side 2) accepts)
+      (λ _. one_where (IsWithin (set_with_id s x) (set_of s e)) (empty_side 2) accepts (λ _. one_answer (says_ok ∷ []))));
+  speaks = λ s formed (x, (e, (first, (second, end)))). names_speak (check_cut s x first second) _ (refused_speaks _ _ _ (refused_speaks _ _ accepts (answers_speak _ tt)));
+}
+
+-- consolidate
+pub consolidate_laws : Meets consolidate_verb
+consolidate_laws = record {
+  replies = λ P t right s sound (x, (ids, end)) kept w. consolidate_meets P s sound x ids w;
+  passed = λ P t right s sound (x, (ids, end)) kept w. stopped_passed (check_consolidate s x ids) _ w;
+  one = λ exclude pieces s formed h (x, (ids, end)). one_after_names (check_consolidate s x ids) accepts (one_answer (says_ok ∷ []));
+  speaks = λ s formed (x, (ids, end)). names_speak (check_consolidate s x ids) accepts (answers_speak _ tt);
+}
+
+-- retire
+pub retire_laws : Meets retire_verb
+retire_laws = record {
+  replies = λ P t right s sound (x, end) kept w. retire_meets P s x w;
+  passed = λ P t right s sound (x, end) kept w. never_stopped (check_live s x) _ w;
+  one = λ exclude pieces s formed h (x, end). one_after_names (check_live s x) accepts (one_answer (says_ok ∷ []));
+  speaks = λ s formed (x, end). names_speak (check_live s x) accepts (answers_speak _ tt);
+}

@@ -1,6 +1,5 @@
 -- Walks of a tester that is stopped by limits alone are stopped by limits alone.
-use Rattle.std.proofs.Common.{ℕ, ℤ, List}
-use Rattle.rp_geometry.specs.Geometry.{HalfSpace}
+use Rattle.std.proofs.Common.{ℤ, List}
 use Rattle.rp_geometry.specs.sets.Shape.{Part}
 use Rattle.rp_semantics.specs.Walk.{Tester}
 use Rattle.rp_parametricity.proofs.OneTester.{TestsFulfil}

@@ -28,7 +28,8 @@ use Rattle.rp_row_soundness.proofs.Meanings.{meanings_agree}
 use Rattle.rp_row_soundness.proofs.EachRow.{row_replies}
 use Rattle.rp_row_soundness.proofs.Stops.{StopsAtLimit}
 use Rattle.rp_row_soundness.proofs.RowStops.{row_stops, first_only_limits}
-use Rattle.rp_row_soundness.proofs.OneVerdict.{IsOneAtMost, one_verdict}
+use Rattle.rp_row_soundness.proofs.OneAnswer.{IsOneAtMost}
+use Rattle.rp_row_soundness.proofs.OneVerdict.{one_verdict}
 use Rattle.rp_forms.proofs.Pieces.{nonempty_part}
 
 -- ---- the limits

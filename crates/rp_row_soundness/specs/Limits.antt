@@ -3,7 +3,7 @@ use Rattle.std.specs.Prelude.{◌≡◌, ℕ, ◌+◌, List, [], ◌∷◌, leng
 use Rattle.std.specs.List.{AllByRecursion}
 use Rattle.rp_language.specs.Name.{Label}
 use Rattle.rp_language.specs.Grammar.{Version, command, reading}
-use Rattle.rp_language.specs.Expression.{Child, Command, expressions_of, first_unknown_among, define, ask_member, ask_empty, ask_pieces, ask_show, ask_equal, ask_within, ask_overlap, ask_contact, ask_relation, register, cut, subdivide, consolidate, retire, ask_neighbours, ask_history, ask_at, ask_as_of, ask_audit, ask_list, set_layer, ask_section, ask_access}
+use Rattle.rp_language.specs.Expression.{Child, Command, expressions_of, first_unknown_among, define, ask_member, ask_relation, register, cut, subdivide, consolidate, retire, ask_neighbours, ask_history, ask_at, ask_as_of, ask_list, set_layer, ask_access}
 use Rattle.rp_geometry.specs.sets.Shape.{Shape, Part}
 use Rattle.rp_geometry.specs.sets.Sets.{IsNonempty, IsWithin, Overlaps}
 use Rattle.rp_semantics.specs.Walk.{Outcome, done, stopped, limit_met, Tester, Work, no_work, first_tester}
@@ -60,17 +60,10 @@ module _ {W : Type 0} (tester : Tester W) (s : State) where
       × AllByRecursion IsNonempty (child_sets s cs)
       × IfDoneWith (check_size (parts_under_lots s.lots + length (joined_parts (child_parts fs))) most_kept_parts w) (λ _ v. AreWithinSoFar x cs fs v × AreApartIfSearched x cs fs v)
 
-  -- the checks that a command with known labels has passed, if its row, walked from this work on, meets a limit
+  -- what a command with known labels has passed if its row, walked from this work on, meets a limit; other commands refuse nothing before a limit
   abbrev pub PassedBy : Command → W → Type 0
   PassedBy (define x e) w = IfDoneWith (form tester (parts_in s) e w) (λ _ _. check_name s x ≡ None)
   PassedBy (ask_member e p) w = NoLimit
-  PassedBy (ask_empty e) w = NoRefusal
-  PassedBy (ask_pieces e) w = NoRefusal
-  PassedBy (ask_show e) w = NoRefusal
-  PassedBy (ask_equal e f) w = NoRefusal
-  PassedBy (ask_within e f) w = NoRefusal
-  PassedBy (ask_overlap e f) w = NoRefusal
-  PassedBy (ask_contact e f) w = NoRefusal
   PassedBy (ask_relation e f) w = IfDoneWith (form tester (parts_in s) e w) (λ _ v. IfDoneWith (form tester (parts_in s) f v) (λ _ _. IsNonempty (set_of s e) × IsNonempty (set_of s f)))
   PassedBy (register x e) w = IfDoneWith (form tester (parts_in s) e w) (λ _ _. (check_new s x ≡ None) × IsNonempty (set_of s e))
   PassedBy (cut x e first second) w = IfDoneWith (form tester (parts_in s) e w) (λ ps v. PassedByCut x (set_of s e) ps first second v)
@@ -81,11 +74,10 @@ module _ {W : Type 0} (tester : Tester W) (s : State) where
   PassedBy (ask_history x) w = NoLimit
   PassedBy (ask_at p) w = NoLimit
   PassedBy (ask_as_of n p) w = NoLimit
-  PassedBy ask_audit w = NoRefusal
   PassedBy ask_list w = NoLimit
   PassedBy (set_layer y) w = NoLimit
-  PassedBy (ask_section e z) w = NoRefusal
   PassedBy (ask_access x y) w = check_access s x y ≡ None
+  PassedBy _ w = NoRefusal
 
 -- in a sound state, if the row of a command meets a limit, no label is missing, and no refusal that comes before the limit holds
 abbrev pub LimitComesAfterRefusals : Type 0

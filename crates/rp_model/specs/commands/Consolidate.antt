@@ -3,7 +3,7 @@ use Rattle.std.specs.Prelude.{◌+◌, true, List, [], ◌∷◌, map, length}
 use Rattle.rp_geometry.specs.parts.Parts.{most_parts}
 use Rattle.rp_language.specs.Expression.{signature, consolidate_verb}
 use Rattle.rp_language.specs.Name.{Label}
-use Rattle.rp_semantics.specs.Walk.{Walk, pass, ◌>>=◌, ◌>>◌}
+use Rattle.rp_semantics.specs.Walk.{Walk, pass, ◌>>◌}
 use Rattle.rp_model.specs.commands.Checks.{check_consolidate}
 use Rattle.rp_model.specs.commands.Definition.{Definition}
 use Rattle.rp_model.specs.commands.Parts.{parts_with_id, joined_parts, new_lot}

@@ -2,10 +2,9 @@
 use Rattle.std.specs.Prelude.{List}
 use Rattle.rp_geometry.specs.sets.Contact.{IsInContact}
 use Rattle.rp_geometry.specs.sets.Shape.{Part}
-use Rattle.rp_language.specs.Expression.{signature, contact_verb}
 use Rattle.rp_semantics.specs.Form.{touch_in_full}
 use Rattle.rp_semantics.specs.Walk.{Walk, pass, ◌>>=◌, Tester}
-use Rattle.rp_model.specs.commands.Definition.{Definition, of_forms}
+use Rattle.rp_model.specs.commands.Definition.{AsksForms}
 use Rattle.rp_model.specs.commands.Reply.{Reply, yes_or_no}
 use Rattle.rp_model.specs.commands.Rules.{yes_where}
 
@@ -17,5 +16,5 @@ module _ {W : Type 0} (tester : Tester W) where
     pass (yes_or_no answer)
 
 -- the definition of contact
-abbrev pub contact_definition : Definition (signature contact_verb)
-contact_definition = of_forms (record { row = row_contact; rule = λ a b. yes_where (IsInContact a b) })
+abbrev pub contact_definition : AsksForms
+contact_definition = record { row = row_contact; rule = λ a b. yes_where (IsInContact a b) }

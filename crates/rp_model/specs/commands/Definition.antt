@@ -67,3 +67,15 @@ of_forms q = record {
   rule = λ s formed (e, (f, end)). q.rule (set_of s e) (set_of s f);
   change = λ s os. nothing_changes;
 }
+
+-- what a command is: a question about one expression or about two, built from its row and its rule, or a command with a definition of its own
+pub data Entry : List Kind → Type 1 where
+  about_form : AsksForm → Entry (expression_kind ∷ [])
+  about_forms : AsksForms → Entry (expression_kind ∷ expression_kind ∷ [])
+  own : {ks : List Kind} → Definition ks → Entry ks
+
+-- the definition of a command
+abbrev pub definition_of : {ks : List Kind} → Entry ks → Definition ks
+definition_of (about_form q) = of_form q
+definition_of (about_forms q) = of_forms q
+definition_of (own d) = d

@@ -2,10 +2,9 @@
 use Rattle.std.specs.Prelude.{List}
 use Rattle.rp_geometry.specs.sets.Sets.{IsEmpty}
 use Rattle.rp_geometry.specs.sets.Shape.{Part}
-use Rattle.rp_language.specs.Expression.{signature, empty_verb}
 use Rattle.rp_semantics.specs.Compare.{show_then_no}
 use Rattle.rp_semantics.specs.Walk.{Walk, pass, ◌>>=◌, Tester}
-use Rattle.rp_model.specs.commands.Definition.{Definition, of_form}
+use Rattle.rp_model.specs.commands.Definition.{AsksForm}
 use Rattle.rp_model.specs.commands.Reply.{Reply, yes_or_no}
 use Rattle.rp_model.specs.commands.Rules.{yes_where}
 
@@ -17,5 +16,5 @@ module _ {W : Type 0} (tester : Tester W) where
     pass (yes_or_no answer)
 
 -- the definition of empty
-abbrev pub empty_definition : Definition (signature empty_verb)
-empty_definition = of_form (record { row = row_empty; rule = λ formed a. yes_where (IsEmpty a) })
+abbrev pub empty_definition : AsksForm
+empty_definition = record { row = row_empty; rule = λ formed a. yes_where (IsEmpty a) }

@@ -2,10 +2,9 @@
 use Rattle.std.specs.Prelude.{true, false, List}
 use Rattle.rp_geometry.specs.sets.Sets.{SameMembers}
 use Rattle.rp_geometry.specs.sets.Shape.{Part}
-use Rattle.rp_language.specs.Expression.{signature, equal_verb}
 use Rattle.rp_semantics.specs.Compare.{is_covered}
 use Rattle.rp_semantics.specs.Walk.{Walk, pass, ◌>>=◌, Tester}
-use Rattle.rp_model.specs.commands.Definition.{Definition, of_forms}
+use Rattle.rp_model.specs.commands.Definition.{AsksForms}
 use Rattle.rp_model.specs.commands.Reply.{Reply, yes_or_no}
 use Rattle.rp_model.specs.commands.Rules.{yes_where}
 use Rattle.rp_model.specs.commands.Within.{row_within}
@@ -18,5 +17,5 @@ module _ {W : Type 0} (tester : Tester W) where
     elim there [ false ↦ pass (yes_or_no false) | true ↦ row_within tester qs ps ]
 
 -- the definition of equal
-abbrev pub equal_definition : Definition (signature equal_verb)
-equal_definition = of_forms (record { row = row_equal; rule = λ a b. yes_where (SameMembers a b) })
+abbrev pub equal_definition : AsksForms
+equal_definition = record { row = row_equal; rule = λ a b. yes_where (SameMembers a b) }

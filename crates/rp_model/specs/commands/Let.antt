@@ -3,7 +3,7 @@ use Rattle.std.specs.Prelude.{◌+◌, true, List, [], length}
 use Rattle.rp_geometry.specs.sets.Shape.{Part}
 use Rattle.rp_language.specs.Expression.{signature, let_verb}
 use Rattle.rp_language.specs.Name.{Label}
-use Rattle.rp_semantics.specs.Walk.{Walk, pass, ◌>>=◌, ◌>>◌}
+use Rattle.rp_semantics.specs.Walk.{Walk, pass, ◌>>◌}
 use Rattle.rp_model.specs.commands.Checks.{check_name}
 use Rattle.rp_model.specs.commands.Definition.{Definition, with_form}
 use Rattle.rp_model.specs.commands.Reply.{Reply, accepted, check, check_size}

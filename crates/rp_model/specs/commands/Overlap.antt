@@ -2,10 +2,9 @@
 use Rattle.std.specs.Prelude.{List}
 use Rattle.rp_geometry.specs.sets.Sets.{Overlaps}
 use Rattle.rp_geometry.specs.sets.Shape.{Part}
-use Rattle.rp_language.specs.Expression.{signature, overlap_verb}
 use Rattle.rp_semantics.specs.Form.{common_in_full}
 use Rattle.rp_semantics.specs.Walk.{Walk, pass, ◌>>=◌, Tester}
-use Rattle.rp_model.specs.commands.Definition.{Definition, of_forms}
+use Rattle.rp_model.specs.commands.Definition.{AsksForms}
 use Rattle.rp_model.specs.commands.Reply.{Reply, yes_or_no}
 use Rattle.rp_model.specs.commands.Rules.{yes_where}
 
@@ -17,5 +16,5 @@ module _ {W : Type 0} (tester : Tester W) where
     pass (yes_or_no answer)
 
 -- the definition of overlap
-abbrev pub overlap_definition : Definition (signature overlap_verb)
-overlap_definition = of_forms (record { row = row_overlap; rule = λ a b. yes_where (Overlaps a b) })
+abbrev pub overlap_definition : AsksForms
+overlap_definition = record { row = row_overlap; rule = λ a b. yes_where (Overlaps a b) }

@@ -2,10 +2,9 @@
 use Rattle.std.specs.Prelude.{ℕ, List}
 use Rattle.rp_geometry.specs.sets.Pieces.{ArePieces}
 use Rattle.rp_geometry.specs.sets.Shape.{Part}
-use Rattle.rp_language.specs.Expression.{signature, pieces_verb}
 use Rattle.rp_semantics.specs.Pieces.{pieces_of_parts}
 use Rattle.rp_semantics.specs.Walk.{Walk, pass, ◌>>=◌, Tester}
-use Rattle.rp_model.specs.commands.Definition.{Definition, of_form}
+use Rattle.rp_model.specs.commands.Definition.{AsksForm}
 use Rattle.rp_model.specs.commands.Reply.{Reply, reply_lines}
 use Rattle.rp_model.specs.commands.Rules.{answers}
 use Rattle.rp_model.specs.commands.Verdict.{piece_lines}
@@ -18,5 +17,5 @@ module _ {W : Type 0} (tester : Tester W) where
     pass (reply_lines (piece_lines gs))
 
 -- the definition of pieces
-abbrev pub pieces_definition : Definition (signature pieces_verb)
-pieces_definition = of_form (record { row = row_pieces; rule = λ formed a given. (gs : List (List ℕ)) × ArePieces formed.parts gs × answers (piece_lines gs) given })
+abbrev pub pieces_definition : AsksForm
+pieces_definition = record { row = row_pieces; rule = λ formed a given. (gs : List (List ℕ)) × ArePieces formed.parts gs × answers (piece_lines gs) given }

@@ -3,10 +3,9 @@ use Rattle.std.specs.Prelude.{List, [], ◌∷◌}
 use Rattle.rp_geometry.specs.sets.Relation.{Relation, StandIn}
 use Rattle.rp_geometry.specs.sets.Sets.{IsEmpty}
 use Rattle.rp_geometry.specs.sets.Shape.{Shape, Part}
-use Rattle.rp_language.specs.Expression.{signature, rcc_verb}
 use Rattle.rp_semantics.specs.Compare.{relation_of_parts}
 use Rattle.rp_semantics.specs.Walk.{Walk, pass, ◌>>=◌, Tester}
-use Rattle.rp_model.specs.commands.Definition.{Definition, of_forms}
+use Rattle.rp_model.specs.commands.Definition.{AsksForms}
 use Rattle.rp_model.specs.commands.Reply.{Reply, reply, refusal}
 use Rattle.rp_model.specs.commands.Rules.{Rule, answers, refused_where}
 use Rattle.rp_model.specs.commands.Verdict.{Verdict, empty_region}
@@ -27,5 +26,5 @@ rule_relation a b =
     (refused_where (IsEmpty b) (empty_region 2) (λ given. (r : Relation) × StandIn r a b × answers (Verdict.relation r ∷ []) given))
 
 -- the definition of rcc
-abbrev pub rcc_definition : Definition (signature rcc_verb)
-rcc_definition = of_forms (record { row = row_relation; rule = rule_relation })
+abbrev pub rcc_definition : AsksForms
+rcc_definition = record { row = row_relation; rule = rule_relation }

@@ -7,7 +7,7 @@ use Rattle.rp_model.specs.commands.Audit.{audit_definition}
 use Rattle.rp_model.specs.commands.Consolidate.{consolidate_definition}
 use Rattle.rp_model.specs.commands.Contact.{contact_definition}
 use Rattle.rp_model.specs.commands.Cut.{cut_definition}
-use Rattle.rp_model.specs.commands.Definition.{Definition}
+use Rattle.rp_model.specs.commands.Definition.{Definition, Entry, about_form, about_forms, own, definition_of}
 use Rattle.rp_model.specs.commands.Empty.{empty_definition}
 use Rattle.rp_model.specs.commands.Equal.{equal_definition}
 use Rattle.rp_model.specs.commands.History.{history_definition}
@@ -26,29 +26,33 @@ use Rattle.rp_model.specs.commands.Show.{show_definition}
 use Rattle.rp_model.specs.commands.Subdivide.{subdivide_definition}
 use Rattle.rp_model.specs.commands.Within.{within_definition}
 
+-- what the command of each verb is
+abbrev pub entry : (verb : Verb) → Entry (signature verb)
+entry let_verb = own let_definition
+entry member_verb = own member_definition
+entry empty_verb = about_form empty_definition
+entry pieces_verb = about_form pieces_definition
+entry show_verb = about_form show_definition
+entry equal_verb = about_forms equal_definition
+entry within_verb = about_forms within_definition
+entry overlap_verb = about_forms overlap_definition
+entry contact_verb = about_forms contact_definition
+entry rcc_verb = about_forms rcc_definition
+entry register_verb = own register_definition
+entry cut_verb = own cut_definition
+entry subdivide_verb = own subdivide_definition
+entry consolidate_verb = own consolidate_definition
+entry retire_verb = own retire_definition
+entry neighbours_verb = own neighbours_definition
+entry history_verb = own history_definition
+entry at_verb = own at_definition
+entry asof_verb = own asof_definition
+entry audit_verb = own audit_definition
+entry list_verb = own list_definition
+entry layer_verb = own layer_definition
+entry section_verb = own section_definition
+entry access_verb = own access_definition
+
 -- the definition of each verb
 abbrev pub definition : (verb : Verb) → Definition (signature verb)
-definition let_verb = let_definition
-definition member_verb = member_definition
-definition empty_verb = empty_definition
-definition pieces_verb = pieces_definition
-definition show_verb = show_definition
-definition equal_verb = equal_definition
-definition within_verb = within_definition
-definition overlap_verb = overlap_definition
-definition contact_verb = contact_definition
-definition rcc_verb = rcc_definition
-definition register_verb = register_definition
-definition cut_verb = cut_definition
-definition subdivide_verb = subdivide_definition
-definition consolidate_verb = consolidate_definition
-definition retire_verb = retire_definition
-definition neighbours_verb = neighbours_definition
-definition history_verb = history_definition
-definition at_verb = at_definition
-definition asof_verb = asof_definition
-definition audit_verb = audit_definition
-definition list_verb = list_definition
-definition layer_verb = layer_definition
-definition section_verb = section_definition
-definition access_verb = access_definition
+definition verb = definition_of (entry verb)
