@@ -14,7 +14,7 @@ use crate::answer::Refusal;
 use crate::reply::RowEnd;
 use rp_command::Expr;
 use rp_eval::{first_unknown, formed};
-use rp_oracle::{Named, Stopped, Oracle};
+use rp_oracle::{Named, Oracle, Stopped};
 use std::alloc::Global;
 
 /// Returns the form of `region`, whose names and lots have the forms that `named` gives. `tests` makes its parts, at

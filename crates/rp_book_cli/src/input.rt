@@ -5,8 +5,8 @@ use crate::fault::Fault;
 use crate::limits::MOST_SCRIPT_BYTES;
 use crate::seal_fault::Text;
 use crate::seal_text::{read_acts_text, read_text};
-use rp_io::{IntakeFault, StdSource, read_whole};
 use rp_book_service::{Length, Stop};
+use rp_io::{IntakeFault, StdSource, read_whole};
 
 /// Returns why standard input was not read.
 fn stop_of(fault: IntakeFault) -> Stop {

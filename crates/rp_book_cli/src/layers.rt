@@ -2,9 +2,9 @@
 
 use crate::fault::Fault;
 use rp_book::{Act, Book};
-use rp_lists::Name;
 use rp_book_service::history::act_of_line;
 use rp_book_service::{Addition, Choice, Inherited, last_choice};
+use rp_lists::Name;
 use rp_scripts::next_line;
 use std::{fmt, io, str};
 

@@ -5,10 +5,10 @@ use crate::answers::AnswerSink;
 use crate::layers::{name_of, tell_addition};
 use crate::version::{are_of_other, unmarked, version_after};
 use rp_book::{Book, Entry};
-use rp_command::Version;
-use rp_io::{QuietSource, StdSink};
 use rp_book_service::Stop;
 use rp_book_service::add::{Outcome, add};
+use rp_command::Version;
+use rp_io::{QuietSource, StdSink};
 use std::io;
 use std::thread::Threads;
 

@@ -7,10 +7,10 @@ use crate::layers::{name_of, tell_asked};
 use crate::seals::{write_acts, write_link, write_proof, write_seal, write_verified};
 use crate::size::write_size;
 use rp_book::Book;
-use rp_io::{BufferedSink, StdSink};
 use rp_book_service::date::{as_of, last_line_by};
 use rp_book_service::history::history;
 use rp_book_service::{Stop, put_report, put_script};
+use rp_io::{BufferedSink, StdSink};
 use std::thread::Threads;
 
 /// Says on standard error on which day `book` begins, if that is after `date`.

@@ -2,8 +2,8 @@
 
 use crate::fault::Fault;
 use crate::seal_fault::{SealFault, Text};
-use rp_io::{IntakeFault, StdSource, read_whole};
 use rp_book_service::Stop;
+use rp_io::{IntakeFault, StdSource, read_whole};
 use rp_seal_text::{Checkpoint, read_checkpoint};
 use std::alloc::{AllocError, Global};
 use std::fs;

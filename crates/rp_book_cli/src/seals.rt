@@ -4,8 +4,8 @@ use crate::fault::Fault;
 use crate::seal_fault::SealFault;
 use crate::seal_text::seal_in;
 use rp_book::Book;
-use rp_io::StdSink;
 use rp_book_service::Stop;
+use rp_io::StdSink;
 use rp_seal_text::Checkpoint;
 use rp_sealed_book::{SealVerdict, link, prove, put_acts, seal, verify};
 

@@ -3,9 +3,9 @@ ghost use Rattle.std.specs.Prelude.{None};
 
 use crate::limits::{MOST_NAMES, MOST_REPORT_BYTES, MOST_SCRIPT_BYTES};
 use rp_book::Book;
+use rp_book_service::{Stop, put_report};
 use rp_command::{Command, Line, Version};
 use rp_io::{Failed, Sink};
-use rp_book_service::{Stop, put_report};
 use rp_scripts::{next_line, split_mark};
 use rp_syntax::read_line;
 use std::alloc::{AllocError, Global};

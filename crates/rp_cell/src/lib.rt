@@ -50,7 +50,7 @@ mod slimming;
 
 pub use bounds::{SideProofs, Sides, box_of, sides_of};
 pub use decide::{
-    Strict, Weak, decide_strict, decide_weak, decide_by_vertices, hold_weak, refute_between,
+    Strict, Weak, decide_by_vertices, decide_strict, decide_weak, hold_weak, refute_between,
     refute_by_two, refute_strict, refute_weak, refute_weak_between, try_decide_strict, weak_soon,
 };
 pub use held::Held;

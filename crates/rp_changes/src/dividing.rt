@@ -17,8 +17,7 @@ ghost use Rattle.rp_lots.specs.Changes.{Changes, replaced_of};
 use rp_answer::{Refusal, RowEnd};
 use rp_lists::{Listed, Name, Names};
 use rp_lots::{Keeper, Replaced, add_born, count_parts, form_at};
-use rp_oracle::MAX_KEPT_PARTS;
-use rp_oracle::{Stopped, Oracle};
+use rp_oracle::{MAX_KEPT_PARTS, Oracle, Stopped};
 use std::alloc::{AllocError, Global};
 
 /// Returns the change that cuts the live lot `id` in two: `first` gets its points in the form `by`, `second` the

@@ -16,7 +16,7 @@ use rp_answer::{Refusal, RowEnd};
 use rp_history::Birth;
 use rp_lists::{Listed, Name, Names};
 use rp_lots::{Change, Keeper, Registry, Replaced, check_room, count_parts, form_at};
-use rp_oracle::{Stopped, Oracle};
+use rp_oracle::{Oracle, Stopped};
 use std::alloc::{AllocError, Global};
 
 /// Returns the change that keeps a form under `name`, which must be new; there must be room for both.

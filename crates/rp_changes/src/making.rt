@@ -18,11 +18,11 @@ ghost use Rattle.rp_changes.specs.Steps.{lot_checked, lots_tested};
 use rp_answer::{Refusal, RowEnd};
 use rp_history::Birth;
 use rp_lists::{Listed, Name, Names};
-use rp_proximity::Reach;
 use rp_lots::{
     Keeper, Overlaps, Replaced, check_room, count_parts, count_tests, form_at, lots_near,
 };
-use rp_oracle::{Stopped, Oracle};
+use rp_oracle::{Oracle, Stopped};
+use rp_proximity::Reach;
 use std::alloc::{AllocError, Global};
 
 /// Returns the change that makes `form` the lot `id` of `layer`, the present layer. As many tests are counted as there

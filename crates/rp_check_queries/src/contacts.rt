@@ -13,10 +13,12 @@ ghost use Rattle.rp_contacts.specs.Numbers.{links_met};
 
 use crate::turn::{meet_in_turn, show_apart_in_turn};
 use rp_answer::{RowEnd, Verdict, Verdicts, one_line};
-use rp_contacts::{AccessLeft, access_left, access_told, audit_left, contact_ids, pending_contacts};
+use rp_contacts::{
+    AccessLeft, access_left, access_told, audit_left, contact_ids, pending_contacts,
+};
 use rp_lists::Name;
-use rp_proximity::Reach;
 use rp_lots::Keeper;
+use rp_proximity::Reach;
 use rp_rows::{access_lines, neighbour_lines};
 use rp_trail::Trail;
 use std::alloc::{AllocError, Global};

@@ -7,8 +7,8 @@ ghost use Rattle.rp_contacts.specs.Meets.{pair_test, meet_each, IsPairWithin};
 ghost use Rattle.rp_contacts.specs.Apart.{apart_each};
 
 use rp_contacts::Pair;
-use rp_proximity::Reach;
 use rp_oracle::Stopped;
+use rp_proximity::Reach;
 use rp_trail::{Form, Trail, common, touching};
 use std::alloc::{AllocError, Global};
 

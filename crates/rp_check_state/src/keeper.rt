@@ -17,10 +17,10 @@ ghost use Rattle.rp_oracle.specs.Short.{StandShort};
 use crate::register::Register;
 use rp_history::History;
 use rp_lists::{Listed, Name};
-use rp_proximity::{Moment, Reach};
 use rp_lots::{Keeper, Overlaps, Registry};
-use rp_space::{IntBox, Point};
 use rp_oracle::{Named, Stopped};
+use rp_proximity::{Moment, Reach};
+use rp_space::{IntBox, Point};
 use rp_trail::{Form, Kept, Trail, common};
 use std::alloc::{AllocError, Global};
 
@@ -87,7 +87,8 @@ impl<'a> Keeper<Trail<'a>> for Register {
         ensures within { IfOk result (λ places. AreWithin self.now.lots places.items) }
         ensures few { IfOk result (λ places. length places.items ≤ most_kept_parts) }
     {
-        self.register_state().near(alloc, form, layer, id, from, reach)
+        self.register_state()
+            .near(alloc, form, layer, id, from, reach)
     }
 
     fn have_room_for(&self, parts: usize) -> bool

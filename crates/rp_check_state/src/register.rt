@@ -11,10 +11,10 @@ ghost use Rattle.rp_check_state.specs.Followed.{shown_change};
 
 use crate::shown::Shown;
 use rp_command::Expr;
-use rp_register_state::RegisterState;
+use rp_eval::first_unknown;
 use rp_lists::Name;
 use rp_lots::Change;
-use rp_eval::first_unknown;
+use rp_register_state::RegisterState;
 use rp_trail::{Form, Trail};
 use std::alloc::{AllocError, Global};
 use std::marker::Model;

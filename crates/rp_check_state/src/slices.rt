@@ -14,9 +14,9 @@ ghost use Rattle.rp_check_state.specs.Followed.{IsFollowed};
 
 use crate::followed::Followed;
 use rp_answer::{RowEnd, Verdict};
+use rp_oracle::Stopped;
 use rp_register_state::Reply;
 use rp_rows::slice_lines;
-use rp_oracle::Stopped;
 use rp_text::write_verdict;
 use rp_trail::{Form, Slices, Trail, slices};
 use std::alloc::Global;

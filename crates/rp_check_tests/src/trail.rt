@@ -4,8 +4,8 @@ ghost use Rattle.rp_geometry.specs.sections.Trace.{IsHeight};
 ghost use Rattle.rp_space.specs.Boxes.{integer_box};
 ghost use Rattle.rp_reports.specs.Output.{most_report_bytes};
 
-use rp_space::{Corner, Half, Halves, IntBox, box_halves};
 use rp_oracle::Stopped;
+use rp_space::{Corner, Half, Halves, IntBox, box_halves};
 use rp_trail::{
     Form, Kept, Trail, common, copy, differed, joined, made, prismed, slices, touching,
 };

@@ -1,8 +1,8 @@
 //! Counts the nodes of the index of lots that the check of a report visits.
 
+use rp_check_state::Register;
 use rp_checker::{Found, check_report_in};
 use rp_io::QuietSink;
-use rp_check_state::Register;
 use rp_runner::run::run;
 use std::alloc::Global;
 use std::process::Abort;

@@ -11,8 +11,8 @@ ghost use Rattle.rp_checker.specs.Marks.{behind_mark};
 
 use crate::answer::follow_answer;
 use crate::halt::Halt;
-use rp_command::Version;
 use rp_check_state::Register;
+use rp_command::Version;
 use rp_correctness::every_report_is_accepted;
 use rp_text::REPORT_MARK;
 use rp_trail::Trail;

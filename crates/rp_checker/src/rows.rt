@@ -9,10 +9,10 @@ ghost use Rattle.rp_reports.specs.Check.{line_tester};
 ghost use Rattle.rp_check_state.specs.Followed.{IsFollowed, followed_told};
 
 use rp_answer::{RowEnd, Verdicts};
-use rp_command::Command;
-use rp_register_state::{Reply, Row, carry_out};
 use rp_check_queries::{access, audit, neighbours};
 use rp_check_state::{Followed, Register, section};
+use rp_command::Command;
+use rp_register_state::{Reply, Row, carry_out};
 use rp_trail::Trail;
 use std::alloc::Global;
 

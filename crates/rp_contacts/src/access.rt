@@ -19,10 +19,10 @@ use crate::pair::Pair;
 use rp_answer::RowEnd;
 use rp_history::LotLine;
 use rp_lists::{Name, Names};
-use rp_proximity::Reach;
 use rp_lots::{Keeper, count_tests};
+use rp_oracle::{Oracle, Stopped};
+use rp_proximity::Reach;
 use rp_rows::Access;
-use rp_oracle::{Stopped, Oracle};
 use std::alloc::{AllocError, Global};
 
 /// Begins `access` from the lot `from` to the lot `to`, up to the tests of pairs, which are counted in `tests`.

@@ -7,9 +7,9 @@ ghost use Rattle.rp_contacts.specs.Apart.{LeavesAudit};
 
 use crate::behind::{later_pairs, live_places};
 use crate::pair::Pair;
-use rp_proximity::Reach;
 use rp_lots::{Keeper, count_tests};
-use rp_oracle::{Stopped, Oracle};
+use rp_oracle::{Oracle, Stopped};
+use rp_proximity::Reach;
 use std::alloc::Global;
 
 /// What is left of `audit` once its tests are counted: how many lots are live, and the pairs of those of one layer that

@@ -10,9 +10,9 @@ ghost use Rattle.rp_contacts.specs.Behind.{lots_behind, tests_behind, AreNearBeh
 use crate::pair::Pair;
 use rp_history::History;
 use rp_lists::Name;
-use rp_proximity::Reach;
 use rp_lots::{Keeper, Near, form_at, lots_near};
-use rp_oracle::{MAX_TESTS, Stopped, Oracle};
+use rp_oracle::{MAX_TESTS, Oracle, Stopped};
+use rp_proximity::Reach;
 use std::alloc::{AllocError, Global};
 
 /// Pairs of lots, by their places, and how many pairs of their parts may meet.

@@ -12,9 +12,9 @@ use crate::pair::Pair;
 use rp_answer::RowEnd;
 use rp_history::LotLine;
 use rp_lists::{Listed, Name, Names};
-use rp_proximity::Reach;
 use rp_lots::{Keeper, count_tests, form_at, lots_near};
-use rp_oracle::{Stopped, Oracle};
+use rp_oracle::{Oracle, Stopped};
+use rp_proximity::Reach;
 use std::alloc::{AllocError, Global};
 
 /// What is left of `neighbours` once its tests are counted: the places of the lots that may touch the one that is asked

@@ -5,7 +5,7 @@ ghost use Rattle.rp_semantics.specs.Compare.{show_then_no, is_covered, touches_o
 ghost use Rattle.rp_oracle.specs.Refines.{Refines};
 ghost use Rattle.rp_eval.specs.Relations.{relation_of, cover_each_other};
 
-use rp_oracle::{Stopped, Oracle};
+use rp_oracle::{Oracle, Stopped};
 use std::alloc::Global;
 
 /// The eight relations of the region connection calculus, of a first form to a second one.

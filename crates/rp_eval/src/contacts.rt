@@ -7,7 +7,7 @@ ghost use Rattle.rp_oracle.specs.Refines.{Refines};
 ghost use Rattle.rp_unionfind.specs.Lists.{numbers_of, IsWithin};
 
 use rp_lists::Listed;
-use rp_oracle::{Stopped, Oracle};
+use rp_oracle::{Oracle, Stopped};
 use rp_unionfind::{PieceList, groups_of_links};
 use std::alloc::Global;
 

@@ -11,8 +11,8 @@ ghost use Rattle.rp_oracle.specs.Refines.{Refines};
 use crate::compare::outside;
 use rp_command::Expr;
 use rp_lists::Name;
+use rp_oracle::{Named, Oracle, Stopped};
 use rp_space::box_halves;
-use rp_oracle::{Named, Stopped, Oracle};
 use std::alloc::Global;
 
 /// Returns `name` if no form is known for it.

@@ -8,8 +8,8 @@ ghost use Rattle.rp_model.specs.commands.Parts.{shapes_of_parts};
 
 use rp_command::Expr;
 use rp_footprint::prism_holds;
-use rp_space::Point;
 use rp_oracle::{Named, Oracle};
+use rp_space::Point;
 
 /// Returns whether `point`, which is in the cube, is in `form`; false if there is no form.
 fn is_held<T: Oracle>(form: Option<&T::Form>, point: &Point) -> bool

@@ -9,7 +9,7 @@ ghost use Rattle.rp_eval.specs.Operands.{form_of};
 
 use crate::form::formed;
 use rp_command::Expr;
-use rp_oracle::{Named, Stopped, Oracle};
+use rp_oracle::{Named, Oracle, Stopped};
 use std::alloc::Global;
 
 /// The form of an operand.

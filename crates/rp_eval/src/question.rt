@@ -3,7 +3,7 @@ ghost use Rattle.rp_oracle.specs.Refines.{Refines};
 ghost use Rattle.rp_eval.specs.Questions.{answer_to};
 
 use crate::compare::{equal, within};
-use rp_oracle::{Stopped, Oracle};
+use rp_oracle::{Oracle, Stopped};
 use std::alloc::Global;
 
 /// A question about two forms with the answer yes or no.

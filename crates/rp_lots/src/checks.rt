@@ -5,7 +5,7 @@ ghost use Rattle.rp_model.specs.commands.Reply.{check_size};
 ghost use Rattle.rp_oracle.specs.Refines.{Refines};
 
 use crate::keeper::Keeper;
-use rp_oracle::{Stopped, Oracle};
+use rp_oracle::{Oracle, Stopped};
 
 /// Returns how many parts `form` has.
 pub fn count_parts<T: Oracle>(form: &T::Form) -> usize

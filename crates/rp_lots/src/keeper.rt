@@ -10,9 +10,9 @@ ghost use Rattle.rp_proximity.specs.Near.{others_in, is_near, lots_at, AreWithin
 
 use rp_history::History;
 use rp_lists::{Listed, Name};
+use rp_oracle::Oracle;
 use rp_proximity::Reach;
 use rp_space::IntBox;
-use rp_oracle::Oracle;
 use std::alloc::{AllocError, Global};
 
 /// What keeps all lots that were ever registered, in the order of registration, with their forms.

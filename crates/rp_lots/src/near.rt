@@ -11,9 +11,9 @@ ghost use Rattle.rp_lots.specs.Counted.{CountsUpTo};
 
 use crate::keeper::Keeper;
 use rp_lists::{Listed, Name};
+use rp_oracle::{MAX_TESTS, Oracle, Stopped};
 use rp_proximity::Reach;
 use rp_space::IntBox;
-use rp_oracle::{MAX_TESTS, Stopped, Oracle};
 use std::alloc::Global;
 
 /// The lots that may meet a form: their places among all lots, and the number of pairs of parts that may meet.

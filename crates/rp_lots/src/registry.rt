@@ -8,9 +8,9 @@ ghost use Rattle.rp_oracle.specs.Refines.{Refines};
 
 use crate::keeper::Keeper;
 use rp_lists::Name;
+use rp_oracle::{Named, Oracle, Stopped};
 use rp_proximity::Moment;
 use rp_space::Point;
-use rp_oracle::{Named, Stopped, Oracle};
 use std::alloc::Global;
 
 /// What keeps lots and finds whether forms overlap.

@@ -14,11 +14,11 @@ ghost use Rattle.rp_proximity.specs.There.{is_there, owner_verdict};
 use crate::state::State;
 use rp_history::History;
 use rp_lists::{Listed, Name};
-use rp_proximity::{Moment, Reach};
 use rp_lots::{Keeper, Overlaps, Registry};
+use rp_oracle::{Named, Stopped};
+use rp_proximity::{Moment, Reach};
 use rp_region::{Part, Region, Work};
 use rp_space::{IntBox, Point};
-use rp_oracle::{Named, Stopped};
 use std::alloc::{AllocError, Global};
 
 impl Named<Work> for State {
@@ -76,7 +76,8 @@ impl Keeper<Work> for State {
         ensures within { IfOk result (λ places. AreWithin self.now.lots places.items) }
         ensures few { IfOk result (λ places. length places.items ≤ most_kept_parts) }
     {
-        self.register_state().near(alloc, form, layer, id, from, reach)
+        self.register_state()
+            .near(alloc, form, layer, id, from, reach)
     }
 
     fn have_room_for(&self, parts: usize) -> bool

@@ -8,10 +8,10 @@ ghost use Rattle.rp_model.specs.commands.Parts.{shapes_of_parts};
 ghost use Rattle.rp_register_state.specs.Taken.{IsTaken};
 ghost use Rattle.rp_machine.specs.Replies.{made};
 
-use rp_register_state::RegisterState;
 use rp_lots::Change;
 use rp_region::{Region, Scratch};
 use rp_regionlots::Regions;
+use rp_register_state::RegisterState;
 use std::alloc::{AllocError, Global};
 use std::marker::Model;
 

@@ -19,9 +19,9 @@ use crate::state::State;
 use rp_answer::{Answer, Echo, Refusal, RowEnd, Verdict, Verdicts};
 use rp_cert::Proofs;
 use rp_command::{Command, Why};
-use rp_register_state::Reply;
-use rp_region::{Region, Work};
 use rp_oracle::Stopped;
+use rp_region::{Region, Work};
+use rp_register_state::Reply;
 use std::alloc::{AllocError, Global};
 use std::thread::Threads;
 
@@ -74,9 +74,9 @@ fn end_lines(end: RowEnd, room: Verdicts) -> Result<Verdicts, AllocError>
     match end {
         RowEnd::Refused(refusal) => Ok(with_line(room, Verdict::Refused(refusal))),
         RowEnd::Stopped(Stopped::Memory(fault)) => Err(fault),
-        RowEnd::Stopped(Stopped::Wrong | Stopped::TakenWrong | Stopped::LimitReported | Stopped::Limit) => {
-            Ok(with_line(room, Verdict::Refused(Refusal::Limit)))
-        }
+        RowEnd::Stopped(
+            Stopped::Wrong | Stopped::TakenWrong | Stopped::LimitReported | Stopped::Limit,
+        ) => { Ok(with_line(room, Verdict::Refused(Refusal::Limit))) }
     }
 }
 

@@ -9,10 +9,10 @@
 
 mod limits;
 mod named;
-mod stopped;
 mod oracle;
+mod stopped;
 
 pub use limits::{MAX_HALVES, MAX_KEPT_PARTS, MAX_PARTS, MAX_TESTS};
 pub use named::Named;
-pub use stopped::Stopped;
 pub use oracle::Oracle;
+pub use stopped::Stopped;

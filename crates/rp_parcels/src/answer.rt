@@ -11,9 +11,9 @@ use crate::fault::ParcelFault;
 use rp_answer::{Refusal, RowEnd};
 use rp_cert::Proof;
 use rp_lists::Copied;
+use rp_oracle::Stopped;
 use rp_region::Work;
 use rp_space::Inside;
-use rp_oracle::Stopped;
 
 /// Returns what a row has come to (`came`) on `walked`, a work that was begun fresh, is taken over by `work` and
 /// answered. A refusal carries the points of the last proof line, where it is shown by points.

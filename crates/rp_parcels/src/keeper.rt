@@ -15,11 +15,11 @@ use crate::parcels::Parcels;
 use rp_boxindex::VisitCount;
 use rp_history::History;
 use rp_lists::{Listed, Name};
-use rp_proximity::Reach;
 use rp_lots::{Keeper, Overlaps};
+use rp_oracle::Stopped;
+use rp_proximity::Reach;
 use rp_region::{Part, Region, Work};
 use rp_space::IntBox;
-use rp_oracle::Stopped;
 use std::alloc::{AllocError, Global};
 
 /// The parcels, and where it is counted how many nodes of their index are visited.

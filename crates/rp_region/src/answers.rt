@@ -5,8 +5,8 @@ use crate::fault::OpFault;
 use crate::part::Part;
 use crate::region::Region;
 use crate::work::Work;
+use rp_oracle::{Oracle, Stopped};
 use rp_space::{Corner, Half, Halves, Point};
-use rp_oracle::{Stopped, Oracle};
 use std::alloc::{AllocError, Global};
 
 impl From<OpFault> for Stopped {

@@ -12,8 +12,8 @@ use crate::front::Front;
 use crate::part::Part;
 use crate::work::Work;
 use rp_lists::Listed;
-use rp_space::Half;
 use rp_oracle::MAX_PARTS;
+use rp_space::Half;
 use std::alloc::Global;
 
 /// Returns `parts` without `others`, which are subtracted one after the other by tests of `work`.

@@ -21,8 +21,8 @@ use crate::part::Part;
 use crate::witness::Witness;
 use crate::work::Work;
 use rp_lists::Listed;
-use rp_space::{Half, Inside, Point};
 use rp_oracle::MAX_PARTS;
+use rp_space::{Half, Inside, Point};
 use std::alloc::{AllocError, Global};
 use std::marker::Model;
 

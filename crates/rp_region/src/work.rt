@@ -28,8 +28,8 @@ use rp_cell::{
 };
 use rp_cert::{Proof, Proofs};
 use rp_lists::Copied;
-use rp_space::{Half, Inside, IntBox, Point, joined};
 use rp_oracle::{MAX_HALVES, MAX_TESTS, Stopped};
+use rp_space::{Half, Inside, IntBox, Point, joined};
 use std::alloc::{AllocError, Global};
 use std::marker::Model;
 

@@ -9,10 +9,10 @@ ghost use Rattle.rp_regionlots.specs.Shown.{pair_test, shown, shown_at, with_all
 
 use rp_boxindex::Watch;
 use rp_contacts::Pair;
-use rp_proximity::Reach;
-use rp_parallel::{Judge, judge_all};
-use rp_region::{OpFault, Region, Work};
 use rp_oracle::Stopped;
+use rp_parallel::{Judge, judge_all};
+use rp_proximity::Reach;
+use rp_region::{OpFault, Region, Work};
 use std::alloc::{AllocError, Global};
 use std::thread::Threads;
 

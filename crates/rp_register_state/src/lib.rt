@@ -6,8 +6,8 @@
 //! register, and changes nothing: it comes to verdict lines or to a change, or to what is left of it where pairs of lots
 //! are judged or slices are told. Calls that answer `AllocError` do so only for want of memory.
 
-mod register_state;
 mod lots;
+mod register_state;
 mod replaced;
 mod reply;
 mod rows;

@@ -5,11 +5,11 @@ ghost use Rattle.rp_answer.specs.Replies.{Tells};
 
 use rp_answer::{RowEnd, Verdicts, one_line};
 use rp_lists::Name;
-use rp_proximity::Moment;
 use rp_lots::{Keeper, Registry};
+use rp_oracle::Oracle;
+use rp_proximity::Moment;
 use rp_rows::{lineage, list, owner_verdict};
 use rp_space::Point;
-use rp_oracle::Oracle;
 use std::alloc::Global;
 
 /// Answers `at`: the live lot of the present layer that has the point.

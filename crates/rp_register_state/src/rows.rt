@@ -13,11 +13,11 @@ use crate::reply::{Reply, Row};
 use rp_answer::{RowEnd, Verdicts, row_form};
 use rp_changes::{consolidation, cutting, definition, registration, retirement};
 use rp_command::{Command, Expr};
-use rp_lots::{Change, Registry};
 use rp_eval::Question;
+use rp_lots::{Change, Registry};
+use rp_oracle::Oracle;
 use rp_rows::{comparison, emptiness, membership, piece_numbers, related, shown_parts};
 use rp_subdivide::subdivision;
-use rp_oracle::Oracle;
 use std::alloc::Global;
 
 /// Returns the row of a question that is answered.

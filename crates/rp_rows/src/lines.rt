@@ -8,8 +8,8 @@ ghost use Rattle.rp_answer.specs.Views.{verdict_of};
 
 use rp_answer::{Verdict, Verdicts, one_line};
 use rp_cert::Slice;
-use rp_lists::Listed;
 use rp_eval::PieceList;
+use rp_lists::Listed;
 use rp_oracle::Oracle;
 use std::alloc::{AllocError, Global};
 

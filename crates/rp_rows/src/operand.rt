@@ -10,8 +10,8 @@ ghost use Rattle.rp_answer.specs.Replies.{GoesOn, row_of_forms};
 
 use rp_answer::{Refusal, RowEnd};
 use rp_command::Expr;
-use rp_lists::Name;
 use rp_eval::{Operand, first_unknown, operand_of};
+use rp_lists::Name;
 use rp_oracle::{Named, Oracle};
 use std::alloc::Global;
 

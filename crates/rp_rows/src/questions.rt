@@ -13,8 +13,8 @@ use crate::relation::relation;
 use rp_answer::{Refusal, RowEnd, Verdicts, row_form, yes_or_no};
 use rp_command::Expr;
 use rp_eval::{Question, first_unknown, is_empty, is_member, pieces};
-use rp_space::Point;
 use rp_oracle::{Named, Oracle};
+use rp_space::Point;
 use std::alloc::Global;
 
 /// Answers `member`: returns whether `point` is a member of `region`, by signs. No test is made, and no limit applies.

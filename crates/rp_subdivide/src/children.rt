@@ -15,11 +15,11 @@ ghost use Rattle.rp_subdivide.specs.Steps.{inside_tested, apart_tested, cover_te
 
 use crate::child::Child;
 use rp_answer::{Refusal, RowEnd};
-use rp_lists::Names;
-use rp_proximity::Reach;
-use rp_lots::{Keeper, Overlaps, count_pairs, count_parts, count_tests};
 use rp_eval::{is_empty, within};
-use rp_oracle::{Stopped, Oracle};
+use rp_lists::Names;
+use rp_lots::{Keeper, Overlaps, count_pairs, count_parts, count_tests};
+use rp_oracle::{Oracle, Stopped};
+use rp_proximity::Reach;
 use std::alloc::{AllocError, Global};
 
 /// Returns the ids of `children`, in order.
@@ -132,7 +132,10 @@ fn count_near<T: Oracle, K: Keeper<T>>(children: &[Child<T::Form>]) -> u64
 }
 
 /// Returns the number of pairs of a part of `child` and a part of one of `others` whose boxes share more than boundary.
-fn count_near_with<T: Oracle, K: Keeper<T>>(child: &Child<T::Form>, others: &[Child<T::Form>]) -> u64
+fn count_near_with<T: Oracle, K: Keeper<T>>(
+    child: &Child<T::Form>,
+    others: &[Child<T::Form>],
+) -> u64
     requires one { IsShort T.parts_of child.now }
     requires few { length others.now ≤ 1024 }
     requires short { AllByRecursion (IsShort T.parts_of) others.now }

@@ -14,10 +14,10 @@ use crate::child::Child;
 use crate::subdividing::subdivide;
 use rp_answer::{Refusal, RowEnd, short_form};
 use rp_command::Expr;
+use rp_eval::first_unknown;
 use rp_lists::{Listed, Name};
 use rp_lots::{Change, Registry, replacing};
-use rp_eval::first_unknown;
-use rp_oracle::{Stopped, Oracle};
+use rp_oracle::{Oracle, Stopped};
 use std::alloc::Global;
 
 /// Returns the change of `subdivide`: it divides the lot `id` into a lot for each of `entries`, which have the new ids

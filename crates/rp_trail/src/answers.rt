@@ -12,8 +12,8 @@ use crate::member::passes_form;
 use crate::part::made;
 use crate::prism::prismed;
 use crate::trail::Trail;
+use rp_oracle::{MAX_PARTS, Oracle, Stopped};
 use rp_space::{Corner, Half, Halves, IntBox, Point};
-use rp_oracle::{MAX_PARTS, Stopped, Oracle};
 use std::alloc::{AllocError, Global};
 
 impl<'a> Oracle for Trail<'a> {

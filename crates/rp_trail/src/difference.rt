@@ -12,8 +12,8 @@ use crate::kept::Kept;
 use crate::meeting::Meeting;
 use crate::part::made;
 use crate::trail::Trail;
-use rp_space::{Half, joined};
 use rp_oracle::{MAX_PARTS, Stopped};
+use rp_space::{Half, joined};
 use std::alloc::Global;
 
 /// Returns the rest of `parts` after each of `others` is subtracted in turn.

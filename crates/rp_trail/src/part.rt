@@ -12,8 +12,8 @@ use crate::kept::{Kept, keep_halves};
 use crate::sides::{follow_box, follow_sides};
 use crate::trail::Trail;
 use arrayvec::ArrayVec;
-use rp_space::{Half, Halves, joined};
 use rp_oracle::{MAX_HALVES, Stopped};
+use rp_space::{Half, Halves, joined};
 use std::alloc::Global;
 
 /// Takes a part test of `cell`, of at most 64 half-spaces, on the next lines of `trail`. Returns the part that they

@@ -12,8 +12,8 @@ use crate::form::{Form, differed};
 use crate::part::made;
 use crate::trail::Trail;
 use rp_footprint::trapezoid;
-use rp_space::{Corner, Half};
 use rp_oracle::{MAX_PARTS, Stopped};
+use rp_space::{Corner, Half};
 use std::alloc::Global;
 
 /// Returns the form of the polygon over `corners` raised from `z1` to below `z2`, on the next lines of `trail`. For

@@ -12,8 +12,8 @@ use crate::drops::is_listed;
 use crate::few::{Few, MOST_FEW, put};
 use crate::trail::Trail;
 use rp_cert::{Proof, check_outside};
-use rp_space::{Half, IntBox, Term, box_halves, cube, joined};
 use rp_oracle::Stopped;
+use rp_space::{Half, IntBox, Term, box_halves, cube, joined};
 
 /// Returns the box that the next line gives. `next` is this line as a proof line.
 pub(crate) fn follow_box(next: Option<Proof>, trail: &mut Trail<'_>) -> Result<IntBox, Stopped>

@@ -18,8 +18,8 @@ use crate::few::{Few, MOST_FEW, put};
 use crate::kept::keep_halves;
 use crate::lines::split_line;
 use rp_cert::{Proof, Slice, check_inside, check_outside, check_weak};
-use rp_space::{Half, joined};
 use rp_oracle::{MAX_TESTS, Stopped};
+use rp_space::{Half, joined};
 use rp_text::{read_proof, read_slice};
 use std::marker::Model;
 
