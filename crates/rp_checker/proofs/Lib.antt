@@ -1,3 +1,4 @@
+mod Limits
 pub mod Ahead
 pub mod Numbered
 pub mod States

@@ -1,3 +1,4 @@
 pub mod Answers
 pub mod Found
+pub mod Limits
 pub mod Marks

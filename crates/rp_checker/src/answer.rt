@@ -1,6 +1,6 @@
 //! The check of whole answers of a report, and the change of each.
 ghost use Rattle.std.specs.Prelude.{◌≡◌, ◌+◌, ◌<◌, ◌∷◌, [], ℕ, false, Ok, length, map, IfOk, is_none, option_map};
-ghost use Rattle.std.specs.List.{AllByRecursion};
+ghost use Rattle.std.specs.List.{AllByRecursion, flat_map};
 ghost use Rattle.rp_command.specs.Versions.{version_of};
 ghost use Rattle.rp_command.specs.Views.{child_of, command_of, expression_of, fault_of, line_of};
 ghost use Rattle.rp_geometry.specs.parts.Parts.{IsCheckedPart};
@@ -14,6 +14,7 @@ ghost use Rattle.rp_reports.specs.Check.{Trail as ModelTrail, limit_allowed, fol
 ghost use Rattle.rp_semantics.specs.Walk.{Outcome};
 ghost use Rattle.rp_oracle.specs.Refines.{StopsBy};
 ghost use Rattle.rp_checker.specs.Answers.{Answers, IsRead, echo_with};
+ghost use Rattle.rp_checker.specs.Limits.{can_meet_limit, expressions_of_operand};
 ghost use Rattle.rp_register_state.specs.Taken.{IsTaken};
 ghost use Rattle.rp_check_state.specs.Followed.{change_followed, shown_change, IsFollowed};
 
@@ -22,7 +23,7 @@ use crate::lines::{follow_limit, follow_verdict, follow_verdicts};
 use crate::rows::carried_out;
 use rp_answer::{Refusal, RowEnd, Verdict, one_line};
 use rp_check_state::{Followed, Register};
-use rp_command::{Command, Expr, Line, Version, Why};
+use rp_command::{Command, Expr, Line, Operand, Verb, Version, Why};
 use rp_lists::Name;
 use rp_lots::Change;
 use rp_oracle::Stopped;
@@ -89,13 +90,6 @@ fn knows(register: &Register, region: &Expr) -> bool
     register.first_unknown(region).is_none()
 }
 
-/// Returns whether all names and lots of `a` and `b` are there.
-fn knows_both(register: &Register, a: &Expr, b: &Expr) -> bool
-    ensures { result ≡ is_none (first_unknown_among (parts_in register.now) (expression_of a.now ∷ expression_of b.now ∷ [])) }
-{
-    knows(register, a) && knows(register, b)
-}
-
 /// Returns whether all names and lots of the children of a subdivision are there.
 fn knows_children(register: &Register, entries: &[(Name, Expr)]) -> bool
     ensures { result ≡ is_none (first_unknown_among (parts_in register.now) (map (λ c. c.shape) (map child_of entries.now))) }
@@ -108,37 +102,57 @@ fn knows_children(register: &Register, entries: &[(Name, Expr)]) -> bool
     true
 }
 
+/// Returns whether all names and lots of `operand` are there.
+fn knows_operand(register: &Register, operand: Operand<'_>) -> bool
+    ensures { result ≡ is_none (first_unknown_among (parts_in register.now) (expressions_of_operand operand.entry)) }
+{
+    match operand {
+        Operand::Region(region) => knows(register, region),
+        Operand::Children(children) => knows_children(register, children.items()),
+        Operand::Name(_)
+        | Operand::Point(_)
+        | Operand::Height(_)
+        | Operand::Line(_)
+        | Operand::Equals
+        | Operand::Names(_)
+        | Operand::Missing => true,
+    }
+}
+
+/// Returns whether all names and lots of `operands` are there.
+fn knows_operands(register: &Register, operands: &[Operand<'_>]) -> bool
+    ensures { result ≡ is_none (first_unknown_among (parts_in register.now) (flat_map expressions_of_operand operands.now)) }
+{
+    for operand in operands {
+        if !knows_operand(register, *operand) {
+            return false;
+        }
+    }
+    true
+}
+
+/// Returns whether a command of `verb` can meet a limit.
+fn may_meet_limit(verb: Verb) -> bool
+    ensures { result ≡ can_meet_limit verb }
+{
+    match verb {
+        Verb::Member
+        | Verb::Retire
+        | Verb::History
+        | Verb::At
+        | Verb::Asof
+        | Verb::List
+        | Verb::Layer => false,
+        _ => true,
+    }
+}
+
 /// Returns whether the report may have a limit in place of the first verdict line of `command`. It may if the command
 /// can meet a limit, and all names and lots of its expressions are there.
 fn limit_allowed(register: &Register, command: &Command) -> bool
     ensures { result ≡ limit_allowed register.now (command_of command.now) }
 {
-    match command {
-        Command::Let(_, region)
-        | Command::Empty(region)
-        | Command::Pieces(region)
-        | Command::Show(region)
-        | Command::Register(_, region)
-        | Command::Cut(_, region, _, _)
-        | Command::Section(region, _) => knows(register, region),
-        Command::Equal(a, b)
-        | Command::Within(a, b)
-        | Command::Overlap(a, b)
-        | Command::Contact(a, b)
-        | Command::Rcc(a, b) => knows_both(register, a, b),
-        Command::Subdivide(_, entries) => knows_children(register, entries.items()),
-        Command::Consolidate(_, _)
-        | Command::Neighbours(_)
-        | Command::Audit
-        | Command::Access(_, _) => true,
-        Command::Member(_, _)
-        | Command::Retire(_)
-        | Command::History(_)
-        | Command::At(_)
-        | Command::Asof(_, _)
-        | Command::List
-        | Command::Layer(_) => false,
-    }
+    may_meet_limit(command.verb()) && knows_operands(register, &command.operands())
 }
 
 /// Takes the verdict lines of a reply, and then makes its change. If `allowed`, it takes instead a line that reports a

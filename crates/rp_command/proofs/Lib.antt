@@ -1,3 +1,4 @@
 mod Digits
 pub mod Children
 pub mod Fronts
+pub mod TableLemmas

@@ -2,6 +2,7 @@
 use Rattle.std.specs.Prelude.{List, ℕ, map}
 use Rattle.rp_language.specs.Name.{Label}
 use Rattle.rp_language.specs.Expression.{Expression, Child, Command as ModelCommand, define, ask_member, ask_empty, ask_pieces, ask_show, ask_equal, ask_within, ask_overlap, ask_contact, ask_relation, register, cut, subdivide, consolidate, retire, ask_neighbours, ask_history, ask_at, ask_as_of, ask_audit, ask_list, set_layer, ask_section, ask_access}
+use Rattle.rp_language.specs.Expression.{Verb as ModelVerb, let_verb, member_verb, empty_verb, pieces_verb, show_verb, equal_verb, within_verb, overlap_verb, contact_verb, rcc_verb, register_verb, cut_verb, subdivide_verb, consolidate_verb, retire_verb, neighbours_verb, history_verb, at_verb, asof_verb, audit_verb, list_verb, layer_verb, section_verb, access_verb}
 use Rattle.rp_language.specs.Grammar.{Fault, too_long, bad_syntax, out_of_range, zero_half_space, too_many_nodes, Reading, blank, command, bad}
 use Rattle.rp_space.specs.Boxes.{integer_box}
 use Rattle.rp_space.specs.Corners.{prism_of}
@@ -9,6 +10,8 @@ use Rattle.rp_command.specs.declared.command.Expr.{Expr}
 use Rattle.rp_command.specs.declared.command.Expr.TheVariants.{Half, Block, Prism, All, Nothing, Name, Lot, And', Or', Minus', Not'}
 use Rattle.rp_command.specs.declared.command.Command.{Command}
 use Rattle.rp_command.specs.declared.command.Command.TheVariants as commands
+use Rattle.rp_command.specs.declared.command.Verb.{Verb}
+use Rattle.rp_command.specs.declared.command.Verb.TheVariants as verbs
 use Rattle.rp_command.specs.declared.command.Why.{Why}
 use Rattle.rp_command.specs.declared.command.Why.TheVariants.{Syntax, Range, Zero, Nodes, Long}
 use Rattle.rp_command.specs.declared.command.Line.{Line}
@@ -62,6 +65,33 @@ command_of commands.List = ask_list
 command_of (commands.Layer x) = set_layer x
 command_of (commands.Section e z) = ask_section (expression_of e) z
 command_of (commands.Access x y) = ask_access x y
+
+-- the verb of the model for a verb of the code
+abbrev pub verb_of : Verb → ModelVerb
+verb_of verbs.Let = let_verb
+verb_of verbs.Member = member_verb
+verb_of verbs.Empty = empty_verb
+verb_of verbs.Pieces = pieces_verb
+verb_of verbs.Show = show_verb
+verb_of verbs.Equal = equal_verb
+verb_of verbs.Within = within_verb
+verb_of verbs.Overlap = overlap_verb
+verb_of verbs.Contact = contact_verb
+verb_of verbs.Rcc = rcc_verb
+verb_of verbs.Register = register_verb
+verb_of verbs.Cut = cut_verb
+verb_of verbs.Subdivide = subdivide_verb
+verb_of verbs.Consolidate = consolidate_verb
+verb_of verbs.Retire = retire_verb
+verb_of verbs.Neighbours = neighbours_verb
+verb_of verbs.History = history_verb
+verb_of verbs.At = at_verb
+verb_of verbs.Asof = asof_verb
+verb_of verbs.Audit = audit_verb
+verb_of verbs.List = list_verb
+verb_of verbs.Layer = layer_verb
+verb_of verbs.Section = section_verb
+verb_of verbs.Access = access_verb
 
 -- the fault of the grammar for a fault of the code
 abbrev pub fault_of : Why → Fault

@@ -1,1 +1,2 @@
+mod OperandLemmas
 mod SpellLemmas

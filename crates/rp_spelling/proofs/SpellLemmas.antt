@@ -89,22 +89,22 @@ node_words v region node word first is =
     ap (λ (e : Expr). word ∷ drop 1 (expression_words v (expression_of e))) (sym is) ∙ sym first
 
 -- the first word stands behind no space
-whole_text : (word : Word) (words : List Word) → words ≡ word ∷ drop 1 words → spaced words ≡ word ++ behind_spaces (drop 1 words)
-whole_text word words first = ap spaced first ∙ spaced-cons word (drop 1 words)
+whole_text : (word : Word) (rest words : List Word) → words ≡ word ∷ rest → spaced words ≡ word ++ behind_spaces rest
+whole_text word rest words first = ap spaced first ∙ spaced-cons word rest
 
 -- the first word was written, and then the others: all of their spelling
-pub spells_all : (r : Result (Unit {0}) AllocError) (old mid new : List ℕ) (word : Word) (words : List Word) → words ≡ word ∷ drop 1 words → mid ≡ old ++ word → Spells r mid new (drop 1 words) → OnOk r (new ≡ old ++ spaced words)
-spells_all (Ok done) old mid new word words first before after =
-    joined old mid new word (behind_spaces (drop 1 words)) before after ∙ ap (λ text. old ++ text) (sym (whole_text word words first))
-spells_all (Err error) old mid new word words first before after = tt
+pub spells_all : (r : Result (Unit {0}) AllocError) (old mid new : List ℕ) (word : Word) (rest words : List Word) → words ≡ word ∷ rest → mid ≡ old ++ word → Spells r mid new rest → OnOk r (new ≡ old ++ spaced words)
+spells_all (Ok done) old mid new word rest words first before after =
+    joined old mid new word (behind_spaces rest) before after ∙ ap (λ text. old ++ text) (sym (whole_text word rest words first))
+spells_all (Err error) old mid new word rest words first before after = tt
 
 -- the first word was written, and then a front of the others: a front of their spelling
-pub spells_front : (r : Result (Unit {0}) AllocError) (old mid new : List ℕ) (word : Word) (words : List Word) → words ≡ word ∷ drop 1 words → mid ≡ old ++ word → Spells r mid new (drop 1 words) → OnErr r (AppendsFront old new (spaced words))
-spells_front (Ok done) old mid new word words first before after = tt
-spells_front (Err error) old mid new word words first before f =
+pub spells_front : (r : Result (Unit {0}) AllocError) (old mid new : List ℕ) (word : Word) (rest words : List Word) → words ≡ word ∷ rest → mid ≡ old ++ word → Spells r mid new rest → OnErr r (AppendsFront old new (spaced words))
+spells_front (Ok done) old mid new word rest words first before after = tt
+spells_front (Err error) old mid new word rest words first before f =
     record {
       front = word ++ f.front;
       rest = f.rest;
-      whole = whole_text word words first ∙ ap (λ t. word ++ t) f.whole ∙ sym (append_assoc word f.front f.rest);
+      whole = whole_text word rest words first ∙ ap (λ t. word ++ t) f.whole ∙ sym (append_assoc word f.front f.rest);
       appended = joined old mid new word f.front before f.appended;
     }

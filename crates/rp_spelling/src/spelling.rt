@@ -1,17 +1,17 @@
 //! The one spelling of a command: its words, with one space between each two.
-ghost use Rattle.std.specs.Prelude.{◌≡◌, [], ◌∷◌, ◌++◌, ◌+◌, ◌<◌, drop, map, length, OnOk, OnErr, decimal, codes};
+ghost use Rattle.std.specs.Prelude.{◌≡◌, [], ◌∷◌, ◌++◌, ◌+◌, ◌<◌, drop, map, length, OnOk, OnErr, decimal};
 ghost use Rattle.std.specs.Fmt.{signed_decimal};
 ghost use Rattle.std.specs.List.{flat_map};
 ghost use Rattle.rp_command.specs.Fronts.{Appends, AppendsFront};
 ghost use Rattle.rp_command.specs.Versions.{version_of};
 ghost use Rattle.rp_command.specs.Views.{expression_of, child_of, command_of};
-ghost use Rattle.rp_language.specs.Grammar.{Version as Versions, spelling, words_of_command, expression_words, half_space_words, point_words, box_words, corner_words, coordinate_text, thousandths_text, two};
+ghost use Rattle.rp_language.specs.Grammar.{Version as Versions, spelling, expression_words, half_space_words, point_words, box_words, corner_words, coordinate_text, thousandths_text, two};
 ghost use Rattle.rp_space.specs.Boxes.{integer_box};
 ghost use Rattle.rp_space.specs.Corners.{polygon_corner, polygon_corners};
-ghost use Rattle.rp_spelling.specs.Spells.{Spells, before_size, children_words};
+ghost use Rattle.rp_spelling.specs.Spells.{Spells, before_size, children_words, words_of_operand};
 
 use itoa::{Buffer, Integer};
-use rp_command::{Command, Entries, Expr, Version};
+use rp_command::{Command, Entries, Expr, Operand, Version};
 use rp_lists::{Name, Names};
 use rp_space::{Corner, Corners, Half, IntBox, Point};
 use std::alloc::AllocError;
@@ -22,14 +22,6 @@ fn write_word(word: &[u8], out: &mut Vec<u8>) -> Result<(), AllocError>
 {
     out.push(b' ')?;
     out.extend_from_slice(word)
-}
-
-/// Appends two words, each after a space.
-fn write_words(first: &[u8], second: &[u8], out: &mut Vec<u8>) -> Result<(), AllocError>
-    ensures { Spells result out.old.items out.new.items (first.now ∷ second.now ∷ []) }
-{
-    write_word(first, out)?;
-    write_word(second, out)
 }
 
 /// Appends numbers, each after a space.
@@ -221,19 +213,6 @@ fn write_expression(version: Version, region: &Expr, out: &mut Vec<u8>) -> Resul
     }
 }
 
-/// Appends the words of two expressions.
-fn write_pair(
-    version: Version,
-    first: &Expr,
-    second: &Expr,
-    out: &mut Vec<u8>,
-) -> Result<(), AllocError>
-    ensures { Spells result out.old.items out.new.items (expression_words (version_of version) (expression_of first.now) ++ expression_words (version_of version) (expression_of second.now)) }
-{
-    write_expression(version, first, out)?;
-    write_expression(version, second, out)
-}
-
 /// Appends a name and the words of an expression.
 fn write_named(
     version: Version,
@@ -245,32 +224,6 @@ fn write_named(
 {
     write_word(name.bytes(), out)?;
     write_expression(version, region, out)
-}
-
-/// Appends the operands of `let`.
-fn write_definition(
-    version: Version,
-    name: &Name,
-    region: &Expr,
-    out: &mut Vec<u8>,
-) -> Result<(), AllocError>
-    ensures { Spells result out.old.items out.new.items (name.now ∷ codes "=" ∷ expression_words (version_of version) (expression_of region.now)) }
-{
-    write_words(name.bytes(), b"=", out)?;
-    write_expression(version, region, out)
-}
-
-/// Appends the operands of `member`.
-fn write_member(
-    version: Version,
-    region: &Expr,
-    point: &Point,
-    out: &mut Vec<u8>,
-) -> Result<(), AllocError>
-    ensures { Spells result out.old.items out.new.items (expression_words (version_of version) (expression_of region.now) ++ point_words (version_of version) point.now) }
-{
-    write_expression(version, region, out)?;
-    write_point(version, point, out)
 }
 
 /// Appends the children of a subdivision.
@@ -293,139 +246,59 @@ fn write_names(names: &Names, out: &mut Vec<u8>) -> Result<(), AllocError>
     Ok(())
 }
 
-/// Appends a name and a number.
-fn write_counted(name: &Name, count: usize, out: &mut Vec<u8>) -> Result<(), AllocError>
-    ensures { Spells result out.old.items out.new.items (name.now ∷ decimal count ∷ []) }
-{
-    write_word(name.bytes(), out)?;
-    write_numbers(&[count], out)
-}
-
-/// Appends the operands of `subdivide`.
+/// Appends the number of children of a subdivision, and the children.
 fn write_subdivision(
     version: Version,
-    lot: &Name,
     children: &Entries,
     out: &mut Vec<u8>,
 ) -> Result<(), AllocError>
-    ensures { Spells result out.old.items out.new.items (lot.now ∷ decimal (length (map child_of children.now.items)) ∷ children_words (version_of version) (map child_of children.now.items)) }
+    ensures { Spells result out.old.items out.new.items (decimal (length (map child_of children.now.items)) ∷ children_words (version_of version) (map child_of children.now.items)) }
 {
-    write_counted(lot, children.items().len(), out)?;
+    write_numbers(&[children.items().len()], out)?;
     write_children(version, children, out)
 }
 
-/// Appends the operands of `consolidate`.
-fn write_consolidation(new: &Name, lots: &Names, out: &mut Vec<u8>) -> Result<(), AllocError>
-    ensures { Spells result out.old.items out.new.items (new.now ∷ decimal (length lots.now.items) ∷ lots.now.items) }
+/// Appends the number of names, and the names.
+fn write_consolidation(lots: &Names, out: &mut Vec<u8>) -> Result<(), AllocError>
+    ensures { Spells result out.old.items out.new.items (decimal (length lots.now.items) ∷ lots.now.items) }
 {
-    write_counted(new, lots.items().len(), out)?;
+    write_numbers(&[lots.items().len()], out)?;
     write_names(lots, out)
 }
 
-/// Appends the operands of `asof`.
-fn write_as_of(
+/// Appends the words of `operand` in `version`.
+fn write_operand(
     version: Version,
-    line: u32,
-    point: &Point,
+    operand: Operand<'_>,
     out: &mut Vec<u8>,
 ) -> Result<(), AllocError>
-    ensures { Spells result out.old.items out.new.items (decimal line ∷ point_words (version_of version) point.now) }
+    ensures { Spells result out.old.items out.new.items (words_of_operand (version_of version) operand.entry) }
 {
-    write_numbers(&[line], out)?;
-    write_point(version, point, out)
-}
-
-/// Appends the operands of `section`.
-fn write_section(
-    version: Version,
-    region: &Expr,
-    z: i32,
-    out: &mut Vec<u8>,
-) -> Result<(), AllocError>
-    ensures { Spells result out.old.items out.new.items (expression_words (version_of version) (expression_of region.now) ++ coordinate_text (version_of version) z ∷ []) }
-{
-    write_expression(version, region, out)?;
-    write_coordinate(version, z as i128, out)
-}
-
-/// Appends the operands of `cut`.
-fn write_cut(
-    version: Version,
-    lot: &Name,
-    region: &Expr,
-    first: &Name,
-    second: &Name,
-    out: &mut Vec<u8>,
-) -> Result<(), AllocError>
-    ensures { Spells result out.old.items out.new.items (lot.now ∷ expression_words (version_of version) (expression_of region.now) ++ first.now ∷ second.now ∷ []) }
-{
-    write_named(version, lot, region, out)?;
-    write_words(first.bytes(), second.bytes(), out)
-}
-
-/// Returns the word that begins a command.
-fn verb_word(c: &Command) -> &'static [u8]
-    ensures { (v : Versions) → words_of_command v (command_of c.now) ≡ result.now ∷ drop 1 (words_of_command v (command_of c.now)) }
-{
-    match c {
-        Command::Let(_, _) => b"let",
-        Command::Member(_, _) => b"member",
-        Command::Empty(_) => b"empty",
-        Command::Pieces(_) => b"pieces",
-        Command::Show(_) => b"show",
-        Command::Equal(_, _) => b"equal",
-        Command::Within(_, _) => b"within",
-        Command::Overlap(_, _) => b"overlap",
-        Command::Contact(_, _) => b"contact",
-        Command::Rcc(_, _) => b"rcc",
-        Command::Register(_, _) => b"register",
-        Command::Cut(_, _, _, _) => b"cut",
-        Command::Subdivide(_, _) => b"subdivide",
-        Command::Consolidate(_, _) => b"consolidate",
-        Command::Retire(_) => b"retire",
-        Command::Neighbours(_) => b"neighbours",
-        Command::History(_) => b"history",
-        Command::At(_) => b"at",
-        Command::Asof(_, _) => b"asof",
-        Command::Audit => b"audit",
-        Command::List => b"list",
-        Command::Layer(_) => b"layer",
-        Command::Section(_, _) => b"section",
-        Command::Access(_, _) => b"access",
+    match operand {
+        Operand::Name(name) => write_word(name.bytes(), out),
+        Operand::Region(region) => write_expression(version, region, out),
+        Operand::Point(point) => write_point(version, point, out),
+        Operand::Height(z) => write_coordinate(version, z as i128, out),
+        Operand::Line(line) => write_numbers(&[line], out),
+        Operand::Equals => write_word(b"=", out),
+        Operand::Names(names) => write_consolidation(names, out),
+        Operand::Children(children) => write_subdivision(version, children, out),
+        Operand::Missing => Ok(()),
     }
 }
 
-/// Appends the operands of a command.
-fn write_operands(version: Version, c: &Command, out: &mut Vec<u8>) -> Result<(), AllocError>
-    ensures { Spells result out.old.items out.new.items (drop 1 (words_of_command (version_of version) (command_of c.now))) }
+/// Appends the words of `operands` in `version`.
+fn write_operands(
+    version: Version,
+    operands: &[Operand<'_>],
+    out: &mut Vec<u8>,
+) -> Result<(), AllocError>
+    ensures { Spells result out.old.items out.new.items (flat_map (words_of_operand (version_of version)) operands.now) }
 {
-    match c {
-        Command::Let(name, region) => write_definition(version, name, region, out),
-        Command::Member(region, point) => write_member(version, region, point, out),
-        Command::Empty(region) | Command::Pieces(region) | Command::Show(region) => {
-            write_expression(version, region, out)
-        }
-        Command::Equal(first, second)
-        | Command::Within(first, second)
-        | Command::Overlap(first, second)
-        | Command::Contact(first, second)
-        | Command::Rcc(first, second) => write_pair(version, first, second, out),
-        Command::Register(lot, region) => write_named(version, lot, region, out),
-        Command::Cut(lot, region, first, second) => write_cut(
-            version, lot, region, first, second, out,
-        ),
-        Command::Subdivide(lot, children) => write_subdivision(version, lot, children, out),
-        Command::Consolidate(new, lots) => write_consolidation(new, lots, out),
-        Command::Retire(name)
-        | Command::Neighbours(name)
-        | Command::History(name)
-        | Command::Layer(name) => write_word(name.bytes(), out),
-        Command::At(point) => write_point(version, point, out),
-        Command::Asof(line, point) => write_as_of(version, *line, point, out),
-        Command::Audit | Command::List => Ok(()),
-        Command::Section(region, z) => write_section(version, region, *z, out),
-        Command::Access(from, to) => write_words(from.bytes(), to.bytes(), out),
+    for operand in operands {
+        write_operand(version, *operand, out)?;
     }
+    Ok(())
 }
 
 /// Appends to `out` the one spelling of the command `c` in `version`: its words with one space between, half-spaces and
@@ -435,6 +308,6 @@ pub fn write_command(version: Version, c: &Command, out: &mut Vec<u8>) -> Result
     ensures ok { OnOk result (out.new.items ≡ out.old.items ++ spelling (version_of version) (command_of c.now)) }
     ensures err { OnErr result (AppendsFront out.old.items out.new.items (spelling (version_of version) (command_of c.now))) }
 {
-    out.extend_from_slice(verb_word(c))?;
-    write_operands(version, c, out)
+    out.extend_from_slice(c.verb().word())?;
+    write_operands(version, &c.operands(), out)
 }

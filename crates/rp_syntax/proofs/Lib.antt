@@ -3,4 +3,3 @@ mod NumberLemmas
 mod ManyLemmas
 mod ReadLemmas
 mod WordLemmas
-mod KeywordLemmas

@@ -1,15 +1,14 @@
 //! Whole commands.
 ghost use Rattle.std.specs.Prelude.{◌≡◌, IfOk, map};
 ghost use Rattle.rp_command.specs.Versions.{version_of};
-ghost use Rattle.rp_command.specs.Views.{child_of, command_of};
+ghost use Rattle.rp_command.specs.Views.{child_of, command_of, expression_of, verb_of};
+ghost use Rattle.rp_language.specs.Expression.{Expression, Command as ModelCommand};
 ghost use Rattle.rp_language.specs.Grammar.{Version as ModelVersion, keyword, verb_table, verb_words, equals_word, let_verb, member_verb, register_verb, cut_verb, subdivide_verb, consolidate_verb, asof_verb, section_verb, access_verb, many, child, name, end_of_line, command_words};
-ghost use Rattle.rp_syntax.specs.Keywords.{comparison_of, verb_of};
-ghost use Rattle.rp_syntax.specs.Reads.{Reads};
+ghost use Rattle.rp_syntax.specs.Reads.{Reads, both_read};
 
 use crate::fault::ReadFault;
-use crate::keywords::{Comparison, Verb, verb_for};
 use crate::words::Words;
-use rp_command::{Command, Entries, Expr, Version, Why};
+use rp_command::{Command, Entries, Expr, Verb, Version, Why, verb_for};
 use rp_lists::{Name, Names};
 use std::alloc::Global;
 
@@ -64,24 +63,19 @@ impl<'a> Words<'a> {
         Ok(Command::Member(region, point))
     }
 
-    /// Reads the operands of a command that compares two regions: two expressions in `version`.
-    fn comparison(
+    /// Reads two expressions in `version`, and makes a command of both by `make`.
+    fn comparison<F: FnOnce(Expr, Expr) -> Command>(
         &mut self,
         alloc: Global,
         version: Version,
-        how: Comparison,
+        make: F,
     ) -> Result<Command, ReadFault>
-        ensures { Reads command_of result self.new (verb_words (version_of version) (comparison_of how) self.old) }
+        requires { F.IsAlwaysCallable make }
+        ensures { (of : Expression → Expression → ModelCommand) → ((a b : Expr) (c : Command) → F.post make a b c → command_of c ≡ of (expression_of a) (expression_of b)) → Reads command_of result self.new (both_read (version_of version) of self.old) }
     {
         let first = self.expression(alloc, version)?;
         let second = self.expression(alloc, version)?;
-        Ok(match how {
-            Comparison::Equal => Command::Equal(first, second),
-            Comparison::Within => Command::Within(first, second),
-            Comparison::Overlap => Command::Overlap(first, second),
-            Comparison::Contact => Command::Contact(first, second),
-            Comparison::Rcc => Command::Rcc(first, second),
-        })
+        Ok(make(first, second))
     }
 
     /// Reads the operands of `register`: a name and an expression in `version`.
@@ -205,7 +199,11 @@ impl<'a> Words<'a> {
             Verb::Empty => self.expression(alloc, version).map(Command::Empty),
             Verb::Pieces => self.expression(alloc, version).map(Command::Pieces),
             Verb::Show => self.expression(alloc, version).map(Command::Show),
-            Verb::Compare(how) => self.comparison(alloc, version, how),
+            Verb::Equal => self.comparison(alloc, version, Command::Equal),
+            Verb::Within => self.comparison(alloc, version, Command::Within),
+            Verb::Overlap => self.comparison(alloc, version, Command::Overlap),
+            Verb::Contact => self.comparison(alloc, version, Command::Contact),
+            Verb::Rcc => self.comparison(alloc, version, Command::Rcc),
             Verb::Register => self.registration(alloc, version),
             Verb::Cut => self.cut(alloc, version),
             Verb::Subdivide => self.subdivision(alloc, version),

@@ -1,13 +1,12 @@
-use Rattle.std.proofs.Common.{◌≡◌, Result, Ok, refl, sym, subst}
+use Rattle.std.proofs.Common.{◌≡◌, Result, Ok, refl, sym, ap, subst}
 use Rattle.rp_command.specs.declared.command.Command.{Command}
 use Rattle.rp_command.specs.declared.command.Command.TheVariants as commands
 use Rattle.rp_command.specs.Versions.{version_of}
-use Rattle.rp_command.specs.Views.{command_of, expression_of}
-use Rattle.rp_language.specs.Expression.{ask_empty, ask_pieces, ask_show, retire, ask_neighbours, ask_history, ask_at, set_layer}
+use Rattle.rp_command.specs.Views.{command_of, expression_of, verb_of}
+use Rattle.rp_language.specs.Expression.{ask_empty, ask_equal, ask_within, ask_overlap, ask_contact, ask_relation, ask_pieces, ask_show, retire, ask_neighbours, ask_history, ask_at, set_layer}
 use Rattle.rp_language.specs.Grammar.{Place, Version, verb_words}
 use Rattle.rp_syntax.specs.declared.fault.ReadFault.{ReadFault}
-use Rattle.rp_syntax.specs.declared.keywords.Verb.{Verb}
-use Rattle.rp_syntax.specs.Keywords.{verb_of}
+use Rattle.rp_command.specs.declared.command.Verb.{Verb}
 use Rattle.rp_syntax.specs.Reads.{Reads}
 use Rattle.rp_syntax.proofs.ReadLemmas.{read_made_of}
 use Rattle.rp_syntax.proofs.words.Words.command_for.Goals as goal
@@ -31,8 +30,20 @@ returns-in-Pieces c = by_verb _ _ _ _ _ _ c.in-Pieces.is (read_made_of expressio
 pub returns-in-Show : goal.returns-in-Show
 returns-in-Show c = by_verb _ _ _ _ _ _ c.in-Show.is (read_made_of expression_of command_of ask_show commands.Show _ _ _ _ c.map-in-Show.ensures.cases (λ _. refl) c.expression-in-Show.ensures)
 
-pub returns-in-Compare : goal.returns-in-Compare
-returns-in-Compare c = by_verb _ _ _ _ _ _ c.in-Compare.is c.comparison.ensures
+pub returns-in-Equal : goal.returns-in-Equal
+returns-in-Equal c = by_verb _ _ _ _ _ _ c.in-Equal.is (c.comparison.ensures ask_equal (λ a b made is. ap command_of is.2))
+
+pub returns-in-Within : goal.returns-in-Within
+returns-in-Within c = by_verb _ _ _ _ _ _ c.in-Within.is (c.comparison-in-Within.ensures ask_within (λ a b made is. ap command_of is.2))
+
+pub returns-in-Overlap : goal.returns-in-Overlap
+returns-in-Overlap c = by_verb _ _ _ _ _ _ c.in-Overlap.is (c.comparison-in-Overlap.ensures ask_overlap (λ a b made is. ap command_of is.2))
+
+pub returns-in-Contact : goal.returns-in-Contact
+returns-in-Contact c = by_verb _ _ _ _ _ _ c.in-Contact.is (c.comparison-in-Contact.ensures ask_contact (λ a b made is. ap command_of is.2))
+
+pub returns-in-Rcc : goal.returns-in-Rcc
+returns-in-Rcc c = by_verb _ _ _ _ _ _ c.in-Rcc.is (c.comparison-in-Rcc.ensures ask_relation (λ a b made is. ap command_of is.2))
 
 pub returns-in-Register : goal.returns-in-Register
 returns-in-Register c = by_verb _ _ _ _ _ _ c.in-Register.is c.registration.ensures

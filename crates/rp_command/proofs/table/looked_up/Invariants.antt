@@ -1,7 +1,7 @@
 use Rattle.std.proofs.Common.{◌≡◌, drop}
 use Rattle.rp_language.specs.Grammar.{looked_up}
-use Rattle.rp_syntax.specs.Keywords.{words_in}
-use Rattle.rp_syntax.proofs.keywords.looked_up.Given as goal
+use Rattle.rp_command.specs.Tables.{words_in}
+use Rattle.rp_command.proofs.table.looked_up.Given as goal
 
 -- the entries still to come decide
 abbrev pub invariant-loop-entry : goal.invariant-loop-entry
