@@ -38,8 +38,8 @@ All but `plan` and `meets --drawn` need Python 3.9 and nothing else; `solids` ne
 
 
 class Fault(Exception):
-    """Why nothing is written, with the status of the program."""
+    """Why nothing is written, with the status of the program and, unless `said` has it, what to do."""
 
-    def __init__(self, said: str, status: int = 1) -> None:
-        super().__init__(said)
-        self.status = status
+    def __init__(self, said: str, status: int = 1, remedy: str = "") -> None:
+        super().__init__(f"{said}. Nothing was written: {remedy}." if remedy else said)
+        self.said, self.status = said, status

@@ -53,7 +53,8 @@ def read(given: argparse.Namespace) -> bytes:
         with open(path, "rb") if path else sys.stdin.buffer as file:
             text = file.read()
     except OSError as error:
-        raise Fault(f"the input cannot be read: {error.strerror}", 3)
+        raise Fault(f"{path or 'standard input'} cannot be read: {error.strerror}", 3, "correct the path, or ask who may read the file" if path else
+                    "name a file")
     if not book.is_book(text):
         return text
     if not path:
@@ -75,7 +76,7 @@ def line_of(given: argparse.Namespace) -> Optional[int]:
         line: Optional[int] = given.asof
         return line
     if not given.file or not os.path.isfile(given.file):
-        raise Fault("--asof takes a date of a book, and no file of a book is named. Nothing was written.", 2)
+        raise Fault("--asof takes a date of a book, and no file of a book is named. Nothing was written: name it, or give the number of a line.", 2)
     if not is_book_file(given.file):
         raise Fault(f"--asof takes a date of a book, and {given.file} is none: give the number of a line. Nothing was written.", 2)
     return book.last_line(given.file, given.asof, store.program(given.store))
@@ -220,7 +221,7 @@ def write_extract(given: argparse.Namespace) -> Written:
     if given.output:
         path = os.path.splitext(given.output)[0] + ".report"
         if path == given.output:
-            raise Fault("-o names the script: its report gets the ending .report", 2)
+            raise Fault("-o names the script, and its report gets the ending .report", 2, "give -o another ending, as .rp")
         write(made.report, path)
     return Written(0, made.script, [said])
 
@@ -270,11 +271,12 @@ def write(text: Union[str, bytes], path: Optional[str]) -> None:
         with open(path, "wb") if path else sys.stdout.buffer as out:
             out.write(text if isinstance(text, bytes) else text.encode())
     except OSError as error:
-        raise Fault(f"the output cannot be written: {error.strerror}", 4)
+        raise Fault(f"{path or 'standard output'} cannot be written: {error.strerror}. Drop what is there of it, make room or name another path by -o, and run "
+                    "again.", 4)
 
 
 def main(line: Optional[list[str]] = None) -> int:
-    given = words.parser(__doc__).parse_args(line)
+    given = words.parse(__doc__, line)
     try:
         if hasattr(given, "asof"):
             given.asof = line_of(given)

@@ -35,10 +35,10 @@ def asked(path: str, store: str, *words: str) -> bytes:
     try:
         done = subprocess.run([command, path, *words], stdin=subprocess.DEVNULL, capture_output=True)
     except OSError as error:
-        raise Fault(f"{path} is a book, and {command}, which reads books, cannot be run: {error.strerror}. Name it by RPSTORE_BOOK.", 5)
+        raise Fault(f"{path} is a book, and {command}, which reads books, cannot be run: {error.strerror}", 5, "name it by RPSTORE_BOOK")
     if done.returncode:
         said = done.stderr.decode(errors="replace").strip().splitlines() or [f"status {done.returncode}"]
-        raise Fault(f"the book {path} was not read: {said[-1]}", 3)
+        raise Fault(f"the book {path} was not read, and nothing was written: {said[-1]}", 3)
     return done.stdout
 
 
@@ -66,4 +66,4 @@ def days(path: str) -> list[tuple[int, str]]:
             with closing(sqlite3.connect(os.path.join(room, "book"))) as database:
                 return [(first - 1, added[:10]) for first, added in database.execute("SELECT first, added FROM entry ORDER BY number")]
     except (OSError, sqlite3.Error) as error:
-        raise Fault(f"the days of the book {path} were not read: {error}. Nothing was written.", 3)
+        raise Fault(f"the days of the book {path} were not read: {error}", 3, "copy the book and its log (FILE-wal), and name the copy")

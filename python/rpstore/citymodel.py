@@ -39,9 +39,9 @@ def documents(text: bytes) -> list[dict[str, Any]]:
         found, end = reader.raw_decode(whole)
         rest = [reader.decode(line) for line in whole[end:].splitlines() if line.strip()]
     except (ValueError, RecursionError) as error:
-        raise Fault(f"the model is no JSON: {error}. Nothing was written.", 3)
+        raise Fault(f"the model is no JSON: {error}", 3, "export it again as CityJSON")
     if not all(isinstance(each, dict) for each in [found, *rest]):
-        raise Fault("the model is no JSON object. Nothing was written.", 3)
+        raise Fault("the model is no JSON object", 3, "export it again as CityJSON")
     return [found, *rest]
 
 
@@ -97,7 +97,7 @@ def chosen(geometries: list[dict[str, Any]], lod: Optional[str]) -> list[dict[st
         raise Unfit("no solid", ", ".join(sorted({str(each.get("type")) for each in geometries})) or "no geometry")
     levels = sorted({lod_of(each) for each in solid})
     if lod is not None and lod not in levels:
-        raise Unfit(f"no solid of the level of detail {lod}", f"it has {', '.join(levels)}")
+        raise Unfit(f"no solid of the level of detail {lod}", f"it has {', '.join(levels)}", "name one that it has by --lod")
     return [each for each in solid if lod_of(each) == (levels[-1] if lod is None else lod)]
 
 
@@ -185,11 +185,11 @@ def read(text: bytes, choice: Choice) -> Model:
     """
     found = documents(text)
     if found[0].get("type") != "CityJSON" or str(found[0].get("version")) not in VERSIONS:
-        raise Fault(f"the model is no CityJSON of the versions {', '.join(VERSIONS)}. Nothing was written.", 3)
+        raise Fault(f"the model is no CityJSON of the versions {', '.join(VERSIONS)}", 3, "export it in one of these")
     try:
         scale, _ = placing(found[0].get("transform"))
         return Model(things(found, choice), grid_of(found[0]), own_origin(found[0]), max(abs(number) for number in scale))
     except Unfit as unfit:
-        raise Fault(f"the model cannot be read: {unfit}. Nothing was written.", 3)
+        raise Fault(f"the model cannot be read: {unfit}", 3, "correct this in the model")
     except (KeyError, TypeError, AttributeError, ValueError) as error:
-        raise Fault(f"the model does not read as CityJSON: {type(error).__name__} {error}. Nothing was written.", 3)
+        raise Fault(f"the model does not read as CityJSON: {type(error).__name__} {error}", 3, "export it again")

@@ -66,7 +66,7 @@ def corner_of(point: MapPoint, rules: Rules) -> Point:
     found = [number - begin for number, begin in zip(units, (*rules.origin, 0))]
     if max(abs(number) for number in found[:2]) > MOST_CORNER or abs(found[2]) > MOST_SIDE:
         raise Unfit(f"a corner is more than {spelled(MOST_CORNER)} m east, west, north or south of the origin, or {spelled(MOST_SIDE)} m above or below",
-                    told.metres(units[0]) + " " + told.metres(units[1]))
+                    told.metres(units[0]) + " " + told.metres(units[1]), "give --origin E N near it, or divide the model")
     return plane.whole([*found, 1])
 
 

@@ -137,7 +137,8 @@ def parts_of(script: Script, near: Sequence[report.Lot], program: str) -> list[S
     answers = list(script.answers([f"show lot {lot.id}" for lot in near], program))
     limited = [lot.id for lot, answer in zip(near, answers) if isinstance(answer.verdict, report.Refused)]
     if limited:
-        raise Fault(f"the store does not show {', '.join(limited)}, so it is not known where the line crosses it")
+        raise Fault(f"the store does not show {', '.join(limited)}, so it is not known where the line crosses it", 1,
+                    "these lots meet a limit of the store (docs/limits.md has ways round each)")
     return [part for answer in answers for part in answer.verdict]
 
 
@@ -155,7 +156,7 @@ def answers_of(script: Script, run: store.Run, region: Region, near: Sequence[re
     told = report.read(io.BytesIO(script.tail(run.text)))
     shown = list(itertools.islice(told, 1 + len(near)))[1:]
     if any(isinstance(answer.verdict, report.Refused) for answer in shown):
-        raise Fault("the store does not show the lots near the line")
+        raise Fault("the store does not show the lots near the line", 1, "these lots meet a limit of the store (docs/limits.md has ways round each)")
     owners = {layer: [answer.verdict for answer in itertools.islice(told, 1 + count)][1:] for layer in region.probes}
     registered = {answer.text: answer.verdict for answer in told}
     return Answers(owners, [layer for layer in region.probes if registered[region.register(layer)] != "ok"])

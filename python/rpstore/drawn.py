@@ -64,7 +64,7 @@ def expression(options: Options, place: Place, version: int) -> tuple[str, list[
     `Fault` if the file cannot be read, or one of its features is no polygon between two heights.
     """
     if plan.MISSING:
-        raise Fault(f"{plan.MISSING}: the packages python3-fiona, python3-pyproj and python3-shapely are needed for --drawn. Nothing was asked.", 5)
+        raise Fault(f"{plan.MISSING}, and --drawn needs this package", 5, plan.INSTALL)
     given, features, said = plan.read(options.region, options.drawn_layer)
     for feature in features:
         feature.polygons = feature.attempt(plan.polygons_of, feature.geometry) or []

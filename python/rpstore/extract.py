@@ -208,7 +208,7 @@ def extract(text: bytes, ids: list[str], program: str, with_neighbours: bool = F
     whole = replace(whole, answers=[(question, verdict) for question, verdict in whole.answers if not isinstance(verdict, report.Refused)])
     missing = [lot for lot in ids if lot not in whole.register.lots]
     if missing:
-        raise Fault(f"the script registers no lot {', '.join(missing)}")
+        raise Fault(f"the script registers no lot {', '.join(missing)}", 1, "`list` in the script shows the live lots")
     beside = [lot for question, answer in whole.answers if question.startswith(b"neighbours ") for lot in answer]
     numbers = fewest(whole, [*ids, *beside], program)
     says = SAYS.format(ids=", ".join(ids), lines=len(whole.lines), kept=len(numbers), unseen="" if with_neighbours else " or touches them",
@@ -216,5 +216,5 @@ def extract(text: bytes, ids: list[str], program: str, with_neighbours: bool = F
     script = b"\n".join([*emptied(whole, numbers), *whole.questions, says.encode()])
     run = store.run_and_check(script, program)
     if not run.is_checked:
-        raise Fault(f"the report of the extract has {run.size:,} bytes, and check reads {report.MOST:,}. Nothing was written: name fewer lots", 6)
+        raise Fault(f"the report of the extract has {run.size:,} bytes, and check reads {report.MOST:,}", 6, "name fewer lots")
     return Extract(script, run.text, len(numbers), len(whole.lines))

@@ -78,7 +78,7 @@ def sections(seen: Seen) -> dict[str, Any]:
     the line, the height and the area."""
     shown = [each for each in seen.slices if each.polygons and each.is_bounded]
     if not shown:
-        raise Fault("the report has no line `section` that shows something: `section lot X 1.500` cuts the lot X at 1.5 m")
+        raise Fault("the report has no line `section` that shows something", 1, "add a line to the script, as `section lot X 1.500`, which cuts the lot X at 1.5 m")
     return collection(seen.place, [
         ({"id": each.label, "layer": each.layer, "line": each.number, "height": metres(each.height), "area": square_metres(each.area)},
          multipolygon(seen.place, each.outlines)) for each in shown])

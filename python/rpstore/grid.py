@@ -30,7 +30,7 @@ def named(word: Optional[str]) -> Grid:
     try:
         return CRS.from_user_input(word) if word and word != METRES else None
     except CRSError as error:
-        raise Fault(f"no grid has this name: {error}", 5)
+        raise Fault(f"no grid has the name {word!a}: {error}", 5, "give its number, as EPSG:25832")
 
 
 def unit(grid: Grid) -> str:
@@ -70,17 +70,18 @@ def grids(given: str, source: Optional[str], target: Optional[str], points: Sequ
         see_metres(points)
     wanted = named(target) or found
     if wanted is not None and found is None:
-        raise Fault("the plan does not say in which grid its coordinates are: --from EPSG:NUMBER says it", 5)
+        raise Fault("the plan does not say in which grid its coordinates are", 5, "--from EPSG:NUMBER says it")
     if wanted is None or unit(wanted) == "metre":
         return found, wanted
     what = "in degrees" if wanted.is_geographic else f"in the unit {unit(wanted)}"
     if target:
-        raise Fault(f"{wanted.name} is {what}, and a register is in metres{at_middle(found, points)}", 5)
+        raise Fault(f"{wanted.name} is {what}, and a register is in metres", 5, f"give --to a grid in metres{at_middle(found, points)}")
     beyond = wanted.is_geographic and any(abs(x) > 180 or abs(y) > 90 for x, y, *_ in points)
-    raise Fault(f"the plan is {what}, of {wanted.name}, " + (
-        f"and has no such numbers: --from EPSG:NUMBER says in which grid it is, --from {METRES} that it is in metres of none" if beyond else
-        f"and a register in metres: --to EPSG:NUMBER names its grid{at_middle(found, points)}"
-        + (f"; --from {METRES} says that the plan is in metres of no grid" if wanted.is_geographic else "")), 5)
+    if beyond:
+        raise Fault(f"the plan is {what}, of {wanted.name}, and has no such numbers", 5, f"--from EPSG:NUMBER says in which grid it is, --from {METRES} that it is "
+                    "in metres of none")
+    raise Fault(f"the plan is {what}, of {wanted.name}, and a register in metres", 5, f"--to EPSG:NUMBER names its grid{at_middle(found, points)}"
+                + (f"; --from {METRES} says that the plan is in metres of no grid" if wanted.is_geographic else ""))
 
 
 def projection(found: Grid, wanted: Grid) -> Callable[[Ring], Ring]:
@@ -90,14 +91,14 @@ def projection(found: Grid, wanted: Grid) -> Callable[[Ring], Ring]:
     try:
         transformer = Transformer.from_crs(found, wanted, always_xy=True, allow_ballpark=False)
     except ProjError:
-        raise Fault(f"PROJ knows only roughly how {found.name} lies to {wanted.name}: --from EPSG:NUMBER says better in which grid the plan is", 5)
+        raise Fault(f"PROJ knows only roughly how {found.name} lies to {wanted.name}", 5, "--from EPSG:NUMBER says better in which grid the plan is")
 
     def projected(ring: Ring) -> Ring:
         easts, norths = [*zip(*ring)][:2]
         try:
             return [*zip(*transformer.transform(easts, norths, errcheck=True))]
         except ProjError as error:
-            raise Fault(f"the plan cannot be projected from {found.name} to {wanted.name}: {error}", 5)
+            raise Fault(f"the plan cannot be projected from {found.name} to {wanted.name}: {error}", 5, "see whether --from names the grid of the plan")
 
     return projected
 

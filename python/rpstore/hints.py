@@ -39,6 +39,12 @@ def nearest(word: str, words: Iterable[str]) -> str:
     return f"`{found[0]}` may be meant" if found else ""
 
 
+def meant(word: str, known: Iterable[str]) -> str:
+    """Returns a question that names the nearest of the `known` words, to stand after a `word` that is none, or nothing."""
+    found = difflib.get_close_matches(word, [*known], 1)
+    return f"; did you mean {found[0]!a}?" if found else ""
+
+
 def of_command(fault: Refusal) -> str:
     word = fault.word or ""
     if word == "rp":

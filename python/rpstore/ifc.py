@@ -449,7 +449,7 @@ def read(text: bytes, choice: Choice) -> Model:
         reader = Reader(File(text))
         things = [thing_of(number, reader, product, choice) for number, product in enumerate(reader.file.of(*kinds), 1)]
     except Unfit as unfit:
-        raise Fault(f"the model cannot be read: {unfit}. Nothing was written.", 3)
+        raise Fault(f"the model cannot be read: {unfit}", 3, "correct this in the model")
     except (TypeError, IndexError, AttributeError, ValueError, KeyError) as error:
-        raise Fault(f"the model does not read as IFC: {type(error).__name__} {error}. Nothing was written.", 3)
+        raise Fault(f"the model does not read as IFC: {type(error).__name__} {error}", 3, "export it again")
     return Model(things, reader.grid)

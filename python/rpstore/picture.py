@@ -215,7 +215,7 @@ def drawn(seen: Seen) -> list[Slice]:
     """The slices that are drawn: those that have something, and where there are such those that reach no side of the domain."""
     there = [each for each in seen.slices if each.rings]
     if not there:
-        raise Fault("the report has no line `section` that shows something: `section lot X 1.500` cuts the lot X at 1.5 m")
+        raise Fault("the report has no line `section` that shows something", 1, "add a line to the script, as `section lot X 1.500`, which cuts the lot X at 1.5 m")
     return [each for each in there if each.is_bounded] or there
 
 

@@ -25,11 +25,15 @@ try:
 except ImportError as error:
     MISSING = error
 
+INSTALL = "install them with 'apt-get install python3-fiona python3-pyproj python3-shapely'"
 MOST_STOREYS = 999
 NUMBER = re.compile(r"[+-]?([0-9]+(\.[0-9]*)?|\.[0-9]+)([eE][+-]?[0-9]{1,3})?")
 # Formats that GDAL reads and fiona does not try by itself. A driver that this GDAL does not have is no fault.
 MORE_FORMATS = ("KML", "LIBKML", "OSM", "PostgreSQL", "MySQL", "MSSQLSpatial", "OCI", "PDF", "JML", "WFS", "OAPIF", "GMLAS", "NAS",
                 "DGN", "CAD", "VRT", "MapML", "GeoJSONSeq", "Parquet", "Arrow")
+OTHER_ID = "give it another id, or take --number with --prefix"
+# The option that names the property of each value.
+OPTIONS = {"id": "--id", "floor": "--floor", "top": "--top", "count of storeys": "--storeys", "height of a storey": "--storey-height"}
 # So many features of one cause are named.
 FEW = 5
 
@@ -89,7 +93,7 @@ def value_of(feature: Feature, word: str, what: str) -> Any:
     value = feature.properties.get(word)
     if value is None or value == "":
         there = "is empty" if word in feature.properties else f"is not there; the properties are {', '.join(feature.properties) or 'none'}"
-        raise Unfit(f"no {what}: the property {word!a} {there}")
+        raise Unfit(f"no {what}: the property {word!a} {there}", remedy=f"fill it, or name another by {OPTIONS[what]}")
     return value
 
 
@@ -97,7 +101,7 @@ def number_of(feature: Feature, word: str, what: str) -> Decimal:
     """A number: the word itself where it is one, else the property that it names."""
     value = word if NUMBER.fullmatch(word) else value_of(feature, word, what)
     if isinstance(value, bool) or not NUMBER.fullmatch(str(value)):
-        raise Unfit(f"the {what} is no number", ascii(value)[:60])
+        raise Unfit(f"the {what} is no number", ascii(value)[:60], "write metres as 3.50")
     return Decimal(str(value))
 
 
@@ -105,7 +109,7 @@ def height_of(feature: Feature, word: str, what: str) -> int:
     """A height in units."""
     value = number_of(feature, word, what)
     if abs(value) > rings.MOST_SIDE // 1000 + 1 or abs(units(value)) > rings.MOST_SIDE:
-        raise Unfit(f"the {what} is more than {spelled(rings.MOST_SIDE)} m from 0", str(value))
+        raise Unfit(f"the {what} is more than {spelled(rings.MOST_SIDE)} m from 0", str(value), "correct it: heights are in metres")
     return units(value)
 
 
@@ -113,7 +117,7 @@ def count_of(feature: Feature, word: str) -> int:
     """How many storeys a feature has."""
     value = number_of(feature, word, "count of storeys")
     if value not in range(1, MOST_STOREYS + 1):
-        raise Unfit(f"the count of storeys is no whole number from 1 to {MOST_STOREYS}", str(value))
+        raise Unfit(f"the count of storeys is no whole number from 1 to {MOST_STOREYS}", str(value), "correct it")
     return int(value)
 
 
@@ -128,9 +132,9 @@ def heights_of(feature: Feature, options: Options) -> list[Optional[int]]:
 
 def check_heights(_: Feature, heights: list[int]) -> None:
     if heights[1] <= heights[0]:
-        raise Unfit("the top is not above the floor", f"{spelled(heights[1])} and {spelled(heights[0])}")
+        raise Unfit("the top is not above the floor", f"{spelled(heights[1])} and {spelled(heights[0])}", "correct the two heights")
     if heights[-1] > rings.MOST_SIDE:
-        raise Unfit(f"the top is more than {spelled(rings.MOST_SIDE)} m from 0", spelled(heights[-1]))
+        raise Unfit(f"the top is more than {spelled(rings.MOST_SIDE)} m from 0", spelled(heights[-1]), "correct it: heights are in metres")
 
 
 def id_of(feature: Feature, options: Options) -> str:
@@ -159,9 +163,9 @@ def polygons_of(_: Feature, geometry: Optional[dict[str, Any]]) -> list[list[gri
     elif kind == "LineString" and len(geometry["coordinates"]) > 3 and geometry["coordinates"][0] == geometry["coordinates"][-1]:
         found = [[geometry["coordinates"]]]
     else:
-        raise Unfit("no polygon and no closed line", kind)
+        raise Unfit("no polygon and no closed line", kind, "draw it as a polygon")
     if not found or not all(polygon and all(polygon) for polygon in found):
-        raise Unfit("no polygon, or one with an empty ring", kind)
+        raise Unfit("no polygon, or one with an empty ring", kind, "remove it, or draw its rings")
     return found
 
 
@@ -197,10 +201,10 @@ def placed(feature: Feature, origin: Corner) -> list[list[list[Corner]]]:
 def register_line(_: Feature, name: str, polygons: list[list[list[Corner]]], heights: tuple[int, int]) -> str:
     told = rings.expression(polygons, heights)
     if sum(word in NODES for word in told.split(" ")) > MOST_NODES:
-        raise Unfit(f"its expression has more than {MOST_NODES} words")
+        raise Unfit(f"its expression has more than {MOST_NODES} words", remedy="divide it into two features")
     line = f"register {name} {told}"
     if len(line) > LONG[2]:
-        raise Unfit(f"its line has more than {LONG[2]} bytes")
+        raise Unfit(f"its line has more than {LONG[2]} bytes", remedy="divide it into two features")
     return line
 
 
@@ -238,7 +242,7 @@ def lots_of_all(features: list[Feature], origin: Corner, options: Options) -> li
         made = lots_of(feature, origin, options)
         taken = [ids[name] for name in made if name in ids]
         if taken:
-            feature.unfit.append(Unfit("the id is that of a feature before", f"feature {taken[0]}"))
+            feature.unfit.append(Unfit("the id is that of a feature before", f"feature {taken[0]}", OTHER_ID))
         found.append({} if feature.unfit else made)
         ids.update(dict.fromkeys(found[-1], feature.number))
     return found
@@ -250,7 +254,7 @@ def see_limits(features: list[Feature], made: list[Lots], program: str) -> usage
     found = usage.forms_of([line for _, line in placed], program)
     for place, (feature, _) in enumerate(placed):
         if found.forms and found.forms[place] is None:
-            feature.unfit.append(Unfit("the store refuses its form, which meets a limit", found.met.get(place, "")))
+            feature.unfit.append(Unfit("the store refuses its form, which meets a limit", found.met.get(place, ""), "divide it into two features"))
     return found
 
 
@@ -272,7 +276,7 @@ def grouped(said: list[tuple[Feature, Unfit]], count: int) -> Iterator[str]:
     """One line for each cause, with the first features that have it, but for one that all have and that is the same of all."""
     causes: dict[str, dict[str, str]] = defaultdict(dict)
     for feature, unfit in said:
-        causes[unfit.cause].setdefault(feature.said, unfit.seen)
+        causes[unfit.advice].setdefault(feature.said, unfit.seen)
     for cause, found in causes.items():
         named = [f"{name} ({seen})" if seen else name for name, seen in found.items()]
         told = "; ".join(named[:FEW]) + (" .." if named[FEW:] else "")
@@ -280,6 +284,12 @@ def grouped(said: list[tuple[Feature, Unfit]], count: int) -> Iterator[str]:
             yield f"{told}: {cause}"
         else:
             yield f"{len(named)} of {count} features: {cause}" + (f": {told}" if len(named) < count or any(found.values()) else "")
+
+
+def nothing(unfit: int, count: int, what: str) -> str:
+    """Returns the last line of standard error if features of a `what` cannot be registered, so many `unfit` of a `count`."""
+    others = ", or leave them out by --leave-out" if unfit < count else ""
+    return f"nothing was written: {unfit} of {count} cannot be registered: correct them in the {what}{others}"
 
 
 def about_coordinates(found: grid.Grid, wanted: grid.Grid) -> str:
@@ -325,9 +335,9 @@ def read(path: str, layer: Optional[str]) -> tuple[str, list[Feature], list[str]
             features = [Feature(number, dict(each.properties), each.geometry and each.geometry.__geo_interface__)
                         for number, each in enumerate(source, 1)]
     except (fiona.errors.FionaError, ValueError) as error:
-        raise Fault(f"GDAL does not read the plan: {error}", 3)
+        raise Fault(f"GDAL does not read the plan: {error}", 3, "correct the path, or save the plan in a format that GDAL reads")
     if not features:
-        raise Fault("the plan has no feature", 3)
+        raise Fault("the plan has no feature", 3, "name another layer of the file, if it has one")
     said = [f"the plan has the layers {', '.join(layers)}, of which the first is read: --layer names another"] if len(layers) > 1 and not layer else []
     return given, features, said
 
@@ -360,7 +370,7 @@ def about_limits(features: list[Feature], made: list[Lots], forms: Optional[usag
 def script_of(path: str, options: Options) -> tuple[int, str, list[str]]:
     """The status, the script, and the lines on standard error."""
     if MISSING:
-        raise Fault(f"{MISSING}: the packages python3-fiona, python3-pyproj and python3-shapely are needed here", 5)
+        raise Fault(f"{MISSING}, and plan needs this package", 5, INSTALL)
     given, features, said = read(path, options.layer)
     for feature in features:
         feature.polygons = feature.attempt(polygons_of, feature.geometry) or []
@@ -377,8 +387,8 @@ def script_of(path: str, options: Options) -> tuple[int, str, list[str]]:
     told = [*grouped([(feature, cause) for feature in unfit for cause in feature.unfit], len(features))]
     clip = grid.how_to_clip(points, origin, grids[1], path) if points else []
     if unfit and not (options.leave_out and len(unfit) < len(features)):
-        return 4, "", said + told + clip + [f"nothing was written: {len(unfit)} of {len(features)} cannot be registered"]
+        return 4, "", said + told + clip + [nothing(len(unfit), len(features), "plan")]
     script = "\n".join(["rp 2", *notes_of(features, origin, grids), *lines_of(features, made, options), ""])
     if len(script) > MOST_SCRIPT:
-        raise Fault(f"the script would have more than {MOST_SCRIPT} bytes: divide the plan, and give each part one --origin", 4)
+        raise Fault(f"the script would have more than {MOST_SCRIPT:,} bytes", 4, "divide the plan, and give each part one --origin")
     return int(bool(unfit)), script, said + [f"left out: {line}" for line in told] + clip + about_limits(features, made, forms, len(script))

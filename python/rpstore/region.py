@@ -71,7 +71,8 @@ def see_region(let: report.Answer, empty: report.Answer, expression: str) -> Non
     """
     if isinstance(let.verdict, report.Refused):
         if let.verdict.cause == "unknown":
-            raise Fault(f"the region names {let.verdict.told[0]}, which is no live lot and no name of the script. Nothing was asked.", 2)
+            raise Fault(f"the region names {let.verdict.told[0]}, which is no live lot and no name of the script. Nothing was asked: `list` in the "
+                        "script shows the live lots.", 2)
         raise Fault("the region meets a limit of the store. Nothing was asked: divide it (docs/limits.md has the limits, with ways round each).", 2)
     if empty.verdict == "yes":
         raise Fault(f"the region has no point, so it meets no lot{explain.exchanged_ends(expression)}. Nothing was written.", 2)

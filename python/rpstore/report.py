@@ -14,6 +14,8 @@ from . import Fault, command, outline, points
 from .command import Command
 
 MOST = 67108864
+# What to do about a text that is no report.
+AGAIN = "run its script again, and take the whole report"
 LONG = {1: 65536, 2: 262144}
 
 INT = rb"(?:0|-?[1-9][0-9]*)"
@@ -115,7 +117,7 @@ class Lines:
         line, read = self.next, self.file.readline(MOST + 2)
         self.bytes += len(read)
         if self.bytes > MOST:
-            raise Fault(f"the report has more than {MOST} bytes", 6)
+            raise Fault(f"the report has more than {MOST:,} bytes", 6, "name its script in its place")
         self.next = read[:-1] if read.endswith(b"\n") else read or None
         self.number += line is not None
         return line
@@ -126,7 +128,7 @@ class Lines:
 
     def wrong(self, said: str) -> NoReturn:
         """The next line cannot stand there."""
-        raise Fault(f"line {self.number + 1} of the report: {said}")
+        raise Fault(f"line {self.number + 1} of the report: {said}", 1, AGAIN)
 
     def due(self, pattern: re.Pattern[bytes], what: str) -> re.Match[bytes]:
         """Takes the next line, which must have the form of a `pattern`: it is called `what`."""
@@ -173,7 +175,7 @@ def slices(lines: Lines) -> tuple[Optional[tuple[tuple[int, ...], ...]], ...]:
     for found in counted(lines, b"sections", SLICE, "a line that shows a slice"):
         ring = tuples(found[0])[1::2] if found[0].startswith(b"= ring") else None
         if ring and not outline.is_convex([points.lowest((x, y, w)) for x, y, _, w in ring]):
-            raise Fault(f"line {lines.number} of the report: its ends do not go once round a convex area")
+            raise Fault(f"line {lines.number} of the report: its ends do not go once round a convex area", 1, AGAIN)
         rings.append(ring)
     return tuple(rings)
 

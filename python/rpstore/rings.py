@@ -12,11 +12,16 @@ MILLI = Decimal("0.001")
 
 
 class Unfit(Exception):
-    """Why a feature cannot be registered: a cause that others may have too, and what of this one shows it."""
+    """Why a feature cannot be registered: a cause that others may have too, what of this one shows it, and what to do."""
 
-    def __init__(self, cause: str, seen: str = ""):
+    def __init__(self, cause: str, seen: str = "", remedy: str = ""):
         super().__init__(f"{cause}: {seen}" if seen else cause)
-        self.cause, self.seen = cause, seen
+        self.cause, self.seen, self.remedy = cause, seen, remedy
+
+    @property
+    def advice(self) -> str:
+        """Returns the cause, and what to do."""
+        return f"{self.cause}; {self.remedy}" if self.remedy else self.cause
 
 
 def units(number: Number) -> int:
@@ -39,18 +44,19 @@ def side(a: Corner, b: Corner, c: Corner) -> int:
 def placed(ring: Sequence[Sequence[Number]], origin: Corner, name: str) -> list[Corner]:
     """The corners of a ring in units from an origin, without its last point and without those that repeat the one before."""
     if ring[0] != ring[-1]:
-        raise Unfit("a ring is open: it does not end with the point at which it begins", name)
+        raise Unfit("a ring is open: it does not end with the point at which it begins", name, "end it with this point")
     corners: list[Corner] = []
     for point in ring[:-1]:
         corner = units(point[0]) - origin[0], units(point[1]) - origin[1]
         if max(abs(number) for number in corner) > MOST_CORNER:
-            raise Unfit(f"a corner is more than {spelled(MOST_CORNER)} m east, west, north or south of the origin", f"{name} at {point[0]} {point[1]}")
+            raise Unfit(f"a corner is more than {spelled(MOST_CORNER)} m east, west, north or south of the origin", f"{name} at {point[0]} {point[1]}",
+                        "give --origin E N near it, or divide the plan")
         if corners[-1:] != [corner]:
             corners.append(corner)
     while len(corners) > 1 and corners[0] == corners[-1]:
         corners.pop()
     if not any(side(corners[0], corner, after) for corner, after in zip(corners, corners[1:])):
-        raise Unfit("a ring has no area, to the millimetre", name)
+        raise Unfit("a ring has no area, to the millimetre", name, "remove it, or correct its corners")
     return corners
 
 
@@ -68,7 +74,7 @@ def slabs(ring: list[Corner], low: int = -MOST_SIDE, high: int = MOST_SIDE) -> l
         return [(low, high, ring)] if len(ring) > 2 else []
     inside = sorted(at[0] for at in ring if low < at[0] < high)
     if not inside:
-        raise Unfit(f"more than {MOST_CORNERS} corners are needed at one x: no cut along x helps", f"x {spelled(low)}")
+        raise Unfit(f"more than {MOST_CORNERS} corners are needed at one x: no cut along x helps", f"x {spelled(low)}", "divide the polygon")
     middle = inside[len(inside) // 2]
     return slabs(ring, low, middle) + slabs(ring, middle, high)
 

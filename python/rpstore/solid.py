@@ -183,7 +183,7 @@ def leaves(pieces: list[Piece], tolerance: Fraction) -> Iterator[tuple[Cell, boo
             continue
         cuts += 1
         if cuts > MOST_CUTS:
-            raise Unfit(f"more than {MOST_CUTS} cuts are needed to divide a solid into convex parts")
+            raise Unfit(f"more than {MOST_CUTS} cuts are needed to divide a solid into convex parts", remedy="divide the solid in the model")
         half, inner, outer = best_cut(crossing, tolerance)
         for side, some, is_inner in ((shape.turned(half), outer, False), (half, inner, True)):
             part = cell.cut(side)
@@ -242,7 +242,7 @@ def few_halves(cell: Cell) -> list[Cell]:
         return [cell]
     best = min(halved(cell), key=lambda pieces: max(len(piece.faces) for piece in pieces))
     if max(len(piece.faces) for piece in best) >= len(cell.faces):
-        raise Unfit(f"a convex part has more than {MOST_HALVES} faces, and no cut makes them fewer")
+        raise Unfit(f"a convex part has more than {MOST_HALVES} faces, and no cut makes them fewer", remedy="divide the solid in the model")
     return [piece for half in best for piece in few_halves(half)]
 
 

@@ -134,13 +134,13 @@ def lines(name: str, operands: list[str]) -> list[str]:
     `Unfit` if there are too many, if one fits no line, or if a name is too long.
     """
     if len(operands) > MOST_PARTS:
-        raise Unfit(f"more than {MOST_PARTS} parts", str(len(operands)))
+        raise Unfit(f"more than {MOST_PARTS} parts", str(len(operands)), "divide the solid in the model")
     groups = [rings.joined("or", group) for group in grouped(operands)]
     if any(words(group) > MOST_NODES or len(group) > LONG[2] - LONGEST_FRONT for group in groups):
-        raise Unfit(f"a part has more than {MOST_NODES} words or {LONG[2] - LONGEST_FRONT} bytes")
+        raise Unfit(f"a part has more than {MOST_NODES} words or {LONG[2] - LONGEST_FRONT} bytes", remedy="divide the solid in the model")
     if len(groups) == 1:
         return [f"register {name} {groups[0]}"]
     names = [f"{name}.{number}" for number in range(1, len(groups) + 1)]
     if not all(map(NAME.fullmatch, names)):
-        raise Unfit(f"its lines have more than {MOST_NODES} words, and its id is too long for the names of its parts", name)
+        raise Unfit(f"its lines have more than {MOST_NODES} words, and its id is too long for the names of its parts", name, "give it an id of at most 27 letters")
     return [f"let {each} = {group}" for each, group in zip(names, groups)] + [f"register {name} {rings.joined('or', [f'name {each}' for each in names])}"]

@@ -111,7 +111,7 @@ def layer_of(thing: Thing) -> str:
     layer = "base" if thing.layer is None else str(thing.layer)
     if not NAME.fullmatch(layer):
         raise Unfit("the layer does not fit: it has 1 to 32 of the letters a to z and A to Z, the digits, _, - and ., and a letter is the first",
-                    ascii(layer)[:60])
+                    ascii(layer)[:60], "correct the layer, or name another property by --layer")
     return layer
 
 
@@ -147,7 +147,7 @@ def lines_of(model: Model, origin: Origin, options: Options) -> list[str]:
         thing.id = thing.attempt(plan.id_of, options) or ""
         lot = None if thing.unfit else thing.attempt(lot_of, origin, model, options)
         if lot and thing.id in ids:
-            thing.unfit.append(Unfit("the id is that of a feature before", f"feature {ids[thing.id]}"))
+            thing.unfit.append(Unfit("the id is that of a feature before", f"feature {ids[thing.id]}", plan.OTHER_ID))
         if thing.unfit or not lot:
             lines.append(f"# left out: {thing.said}: {'; '.join(map(str, thing.unfit))}")
             continue
@@ -175,9 +175,9 @@ def read(text: bytes, options: Options) -> Model:
     elif citymodel.is_model(text):
         found = citymodel.read(text, choice)
     else:
-        raise Fault("the model is neither CityJSON nor IFC. Nothing was written.", 3)
+        raise Fault("the model is neither CityJSON nor IFC", 3, "export it as one of the two")
     if not found.things:
-        raise Fault("the model has no feature with a solid. Nothing was written.", 3)
+        raise Fault("the model has no feature with a solid", 3, "export it with solids, or name another --kind")
     return found
 
 
@@ -194,8 +194,8 @@ def script_of(text: bytes, options: Options) -> tuple[int, str, list[str]]:
     unfit = [thing for thing in model.things if thing.unfit]
     told = [*plan.grouped([(thing, cause) for thing in unfit for cause in thing.unfit], count)]
     if unfit and not (options.leave_out and len(unfit) < count):
-        return 4, "", said + told + [f"nothing was written: {len(unfit)} of {count} cannot be registered"]
+        return 4, "", said + told + [plan.nothing(len(unfit), count, "model")]
     script = "\n".join(["rp 2", *notes_of(model, origin, where), *lines, ""])
     if len(script) > MOST_SCRIPT:
-        raise Fault(f"the script would have more than {MOST_SCRIPT} bytes: divide the model, and give each part one --origin. Nothing was written.", 4)
+        raise Fault(f"the script would have more than {MOST_SCRIPT:,} bytes", 4, "divide the model, and give each part one --origin")
     return int(bool(unfit)), script, said + [f"left out: {line}" for line in told]

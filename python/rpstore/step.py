@@ -109,7 +109,7 @@ class File:
         try:
             return values_of(self.instances[number].text)
         except (ValueError, IndexError) as error:
-            raise Fault(f"the model does not read as STEP: instance #{number}: {error}. Nothing was written.", 3)
+            raise Fault(f"the model does not read as STEP: instance #{number}: {error}", 3, "export it again")
 
     def of(self, *names: str) -> Iterator[Instance]:
         """Yields the instances of some types, in the order of the file."""

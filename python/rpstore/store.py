@@ -32,7 +32,7 @@ def quiet() -> dict[str, str]:
 
 
 def not_run(command: str, error: OSError) -> Fault:
-    return Fault(f"the store {command} cannot be run: {error.strerror}", 5)
+    return Fault(f"the store {command} cannot be run: {error.strerror}", 5, "name it by --store or RPSTORE")
 
 
 def see_status(status: int) -> None:
@@ -42,7 +42,7 @@ def see_status(status: int) -> None:
     `Fault` if its `status` is above 1, or a signal ended it.
     """
     if status not in (0, 1):
-        raise Fault(f"the store ended with status {status}", 5)
+        raise Fault(f"the store ended with status {status}", 5, "it says why above, or docs/statuses.md does")
 
 
 def run(command: str, text: bytes, *words: str) -> bytes:
@@ -112,7 +112,7 @@ def accepted(said: str) -> str:
     `Fault` if that is something against the report.
     """
     if said not in ("accepted", UNCHECKED):
-        raise Fault(f"the report is not accepted: {said}")
+        raise Fault(f"the report is not accepted: {said}, the number of its first wrong line", 1, "run its script again")
     return said
 
 

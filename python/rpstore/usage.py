@@ -36,7 +36,7 @@ def forms_of(lines: Sequence[str], program: str) -> Forms:
         verdicts = [answer.verdict for answer in report.read(io.BytesIO(told))]
         met = limits.met(told, program)
     except Fault as fault:
-        return Forms([], {}, str(fault))
+        return Forms([], {}, fault.said)
     return Forms([None if isinstance(verdict, report.Refused) else limits.form_of(verdict) for verdict in verdicts],
                  {number - 1: why for number, why in met.items()})
 

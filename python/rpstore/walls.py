@@ -5,7 +5,7 @@ import io
 from dataclasses import dataclass
 from typing import Collection, Iterable, NamedTuple, Optional, Sequence
 
-from . import Fault, extract, lots, report, store
+from . import Fault, extract, hints, lots, report, store
 from .lots import Body
 from .script import Script
 from .touch import Contact, contact_of
@@ -36,9 +36,11 @@ def lots_asked(live: Sequence[report.Lot], ids: Sequence[str]) -> list[str]:
     # Errors
     `Fault` if one of the ids is that of no live lot.
     """
-    missing = [lot for lot in ids if lot not in {each.id for each in live}]
+    known = {each.id for each in live}
+    missing = [lot for lot in ids if lot not in known]
     if missing:
-        raise Fault(f"no live lot is called {', '.join(missing)}: `list` in the script shows which are. Nothing was asked.", 2)
+        what = hints.meant(missing[0], sorted(known)) or ": `list` in the script shows which are."
+        raise Fault(f"no live lot is called {', '.join(missing)}{what} Nothing was asked.", 2)
     return list(dict.fromkeys(ids)) or [lot.id for lot in live]
 
 

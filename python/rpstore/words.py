@@ -5,12 +5,15 @@ import argparse
 import re
 from decimal import Decimal, InvalidOperation
 from importlib import metadata
-from typing import TYPE_CHECKING, Optional, Union
+from typing import TYPE_CHECKING, Iterable, NoReturn, Optional, Sequence, Union
 
-from . import book, conflicts, crosses_forms, meets_forms, picture, place
+from . import book, conflicts, crosses_forms, hints, meets_forms, picture, place
 
 if TYPE_CHECKING:
-    Words = argparse._SubParsersAction[argparse.ArgumentParser]
+    Words = argparse._SubParsersAction["Parser"]
+
+# What argparse says of a first word that it does not know.
+CHOICE = re.compile(r"argument WORD: invalid choice: (?P<quote>['\"])(?P<word>.*?)(?P=quote).*choose from (?P<known>.*)\)", re.S)
 
 
 def version() -> str:
@@ -26,9 +29,9 @@ def decimal(word: str) -> Decimal:
     try:
         number = Decimal(word)
     except InvalidOperation:
-        raise argparse.ArgumentTypeError(f"{word!a} is no number")
+        raise argparse.ArgumentTypeError(f"{word!a} is no number: write metres as 3.500")
     if not number.is_finite() or abs(number) > 10**9 or number * 1000 % 1:
-        raise argparse.ArgumentTypeError("metres with at most three digits behind the point are wanted")
+        raise argparse.ArgumentTypeError(f"{word!a} is out of bounds: write metres up to 1000000000 with at most three digits after the point")
     return number
 
 
@@ -36,14 +39,14 @@ def millimetres(word: str) -> Decimal:
     """Reads millimetres above 0, to the nanometre, up to a metre."""
     number = Decimal(word) if re.fullmatch(r"[0-9]{1,4}(\.[0-9]{1,6})?", word) else Decimal(0)
     if not 0 < number <= 1000:
-        raise argparse.ArgumentTypeError("millimetres above 0 and up to 1000 are needed, with at most six digits after the point")
+        raise argparse.ArgumentTypeError(f"{word!a} is out of bounds: write millimetres above 0 and up to 1000, with at most six digits after the point")
     return number
 
 
 def width(word: str) -> int:
     """Reads a width in pixels."""
     if not (word.isdigit() and picture.LEAST <= int(word[:9]) <= picture.MOST):
-        raise argparse.ArgumentTypeError(f"a number from {picture.LEAST} to {picture.MOST} is wanted")
+        raise argparse.ArgumentTypeError(f"{word!a} is no width: write pixels from {picture.LEAST} to {picture.MOST}")
     return int(word)
 
 
@@ -52,11 +55,33 @@ def line_or_date(word: str) -> Union[int, str]:
     if book.DATE.fullmatch(word):
         return word
     if not (word.isascii() and word.isdigit() and len(word) < 9):
-        raise argparse.ArgumentTypeError(f"{word!a} is no number of a line, and no date as 2026-11-30")
+        raise argparse.ArgumentTypeError(f"{word!a} is no number of a line, and no date: write 117, or 2026-11-30 of a book")
     return int(word)
 
 
-def add(words: Words, word: str, says: str, file: Optional[str] = "?") -> argparse.ArgumentParser:
+class Parser(argparse.ArgumentParser):
+    """A parser that says in one line what is wrong with the words, and that nothing was written. That of the whole line has the parsers of
+    its words as `forms`."""
+
+    forms: dict[str, Parser] = {}
+
+    def refuse(self, said: str) -> NoReturn:
+        self.exit(2, f"rpstore-gis: {said} Nothing was read or written.\n")
+
+    def refuse_word(self, word: str, known: Iterable[str]) -> NoReturn:
+        """Ends with 2, and names the word that is the nearest of the `known` ones, if one is near."""
+        self.refuse(f"unknown word {word!a}{hints.meant(word, known) or f'; {self.prog} --help lists the words.'}")
+
+    def error(self, message: str) -> NoReturn:
+        choice = CHOICE.match(message)
+        if choice:
+            self.refuse_word(choice["word"], re.findall(r"\w+", choice["known"]))
+        if message.endswith("required: WORD"):
+            self.refuse(f"no word was given; {self.prog} --help lists the words.")
+        self.refuse(f"{message} ({self.prog} --help says more).")
+
+
+def add(words: Words, word: str, says: str, file: Optional[str] = "?") -> Parser:
     """Adds a `word` with its FILE, which may be left out unless `file` is None, and returns its parser."""
     made = words.add_parser(word, help=says, description=says)
     if file:
@@ -82,7 +107,7 @@ def add_asof(made: argparse.ArgumentParser) -> None:
                       "book also after a day, as 2026-11-30, in UTC")
 
 
-def add_shown(words: Words, word: str, says: str, file: Optional[str] = "?") -> argparse.ArgumentParser:
+def add_shown(words: Words, word: str, says: str, file: Optional[str] = "?") -> Parser:
     """Adds a `word` that reads what a script or a report shows, and returns its parser."""
     made = add(words, word, says, file)
     add_place(made)
@@ -125,7 +150,7 @@ def add_explain(words: Words) -> None:
                       "alone")
 
 
-def add_on_map(words: Words, word: str, says: str) -> argparse.ArgumentParser:
+def add_on_map(words: Words, word: str, says: str) -> Parser:
     """Adds a `word` that asks questions after a script and may write map coordinates, and returns its parser."""
     made = add(words, word, says, None)
     add_place(made)
@@ -223,9 +248,9 @@ def add_solids(words: Words) -> None:
     made.add_argument("--leave-out", action="store_true", help="leave out the features that cannot be registered, each with a note")
 
 
-def parser(says: str) -> argparse.ArgumentParser:
+def parser(says: str) -> Parser:
     """Returns the parser of the command line, whose help begins with what it `says`."""
-    made = argparse.ArgumentParser(prog="rpstore-gis", description=says, formatter_class=argparse.RawDescriptionHelpFormatter)
+    made = Parser(prog="rpstore-gis", description=says, formatter_class=argparse.RawDescriptionHelpFormatter)
     made.add_argument("--version", action="version", version=f"rpstore-gis {version()}", help="show the version of this package")
     words = made.add_subparsers(dest="word", required=True, metavar="WORD")
     add_view(words)
@@ -244,4 +269,15 @@ def parser(says: str) -> argparse.ArgumentParser:
     add_extract(words)
     add_plan(words)
     add_solids(words)
+    made.forms = words.choices
     return made
+
+
+def parse(says: str, line: Optional[Sequence[str]]) -> argparse.Namespace:
+    """Reads the words of the command `line`, whose help begins with what it `says`. Ends with 2 if a word is unknown."""
+    made = parser(says)
+    given, unknown = made.parse_known_args(line)
+    if unknown:
+        form = made.forms[given.word]
+        form.refuse_word(unknown[0], re.findall("--[a-z-]+", form.format_usage()))
+    return given

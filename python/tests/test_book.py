@@ -75,7 +75,7 @@ def test_what_is_no_book_is_named(town, tmp_path, capsys, monkeypatch):
     other = tmp_path / "other.db"
     other.write_bytes(book.MAGIC + bytes(4096))
     assert __main__.main(["view", str(other)]) == 3
-    assert "was not read: rpstore-book: the file is a database that cannot be read" in capsys.readouterr().err
+    assert "was not read, and nothing was written: rpstore-book: the file is a database that cannot be read" in capsys.readouterr().err
     monkeypatch.setenv("RPSTORE_BOOK", str(tmp_path / "none"))
     with pytest.raises(Fault, match="cannot be run"):
         book.script(town, "")

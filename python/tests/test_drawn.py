@@ -68,7 +68,7 @@ def test_a_script_of_version_1(ask):
 
 
 @pytest.mark.parametrize("words, script, epsg, wanted", [
-    (["--floor", "3", "--top", "1"], FLATS, 25832, "feature 1 (1.000 and 3.000): the top is not above the floor. Nothing was asked."),
+    (["--floor", "3", "--top", "1"], FLATS, 25832, "feature 1 (1.000 and 3.000): the top is not above the floor; correct the two heights. Nothing was asked."),
     (["--floor", "depth", "--top", "1"], FLATS, 25832, "no floor: the property 'depth' is not there"),
     (["--floor", "0", "--top", "1"], FLATS.replace(PLACE, ""), 4326, "the script names no grid. Nothing was asked: --epsg NUMBER names the grid of the script."),
 ])

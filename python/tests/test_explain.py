@@ -232,5 +232,6 @@ def test_explained_are_scripts_and_accepted_reports(store):
     script = "rp 2\nregister a box 0.000 0.000 0.000 1.000 1.000 1.000\nretire b\n"
     for given in (script.encode(), store(script), store(script, "run", "brief")):
         assert ran(["explain"], given) == (1, b"Line 2 (in an editor 3): b was not retired, because no lot b was registered before this line.\n", "")
-    assert ran(["explain"], store(script).replace(b"box 0 0 0 1000", b"box 0 0 0 1001"))[0::2] == (1, "rpstore-gis: the report is not accepted: wrong 5\n")
+    assert ran(["explain"], store(script).replace(b"box 0 0 0 1000", b"box 0 0 0 1001"))[0::2] == (
+        1, "rpstore-gis: the report is not accepted: wrong 5, the number of its first wrong line. Nothing was written: run its script again.\n")
     assert ran(["explain"], script.replace("retire b", "retire a").encode()) == (0, b"", "")

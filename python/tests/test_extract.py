@@ -173,5 +173,6 @@ def test_both_files_are_written(tmp_path, store):
     assert store(out.read_text()).decode() == report and store(report, "check") == b"accepted\n"
     assert ran(["extract", "-", "way"], BOOK.encode())[1] == out.read_bytes()
     assert ran(["extract", str(book), "way", "-o", str(tmp_path / "way.report")])[::2] == (
-        2, "rpstore-gis: -o names the script: its report gets the ending .report\n")
-    assert ran(["extract", str(book), "nobody"])[::2] == (1, "rpstore-gis: the script registers no lot nobody\n")
+        2, "rpstore-gis: -o names the script, and its report gets the ending .report. Nothing was written: give -o another ending, as .rp.\n")
+    assert ran(["extract", str(book), "nobody"])[::2] == (1, "rpstore-gis: the script registers no lot nobody. Nothing was written: `list` in the script shows "
+                                                             "the live lots.\n")

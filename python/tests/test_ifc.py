@@ -220,7 +220,7 @@ def test_spaces_without_a_solid():
 def test_what_is_no_model(text):
     with pytest.raises(Fault) as found:
         made(text)
-    assert found.value.status == 3 and "Nothing was written." in str(found.value)
+    assert found.value.status == 3 and "Nothing was written" in str(found.value)
 
 
 @pytest.mark.parametrize("depth", [b"2500.E-999999999", b"2500.E999999999", b"0.E999999999"])

@@ -147,14 +147,14 @@ UNFIT = [
 @pytest.mark.parametrize("feature, told", UNFIT)
 def test_what_cannot_be_registered(feature, told, written):
     status, lines, said = script(written(feature), origin=[Decimal(0)] * 2)
-    assert (status, lines, said[-1]) == (4, [], "nothing was written: 1 of 1 cannot be registered")
+    assert (status, lines, said[-1]) == (4, [], "nothing was written: 1 of 1 cannot be registered: correct them in the plan")
     assert [line for line in said if line.startswith(told)]
     status, lines, said = script(written(feature, lot(id="b")), leave_out=True, origin=[Decimal(0)] * 2)
     assert status == 1 and lines[-2].startswith("# left out: feature 1") and lines[-1] == f"register b {PRISM}"
 
 
 def test_a_height_that_is_no_number(written):
-    assert script(written(lot(base=True)))[2][0] == "feature 1, a (True): the floor is no number"
+    assert script(written(lot(base=True)))[2][0] == "feature 1, a (True): the floor is no number; write metres as 3.50"
 
 
 def test_all_causes_at_once_and_equal_ones_together(written):
@@ -163,14 +163,14 @@ def test_all_causes_at_once_and_equal_ones_together(written):
     assert status == 4 and said == [
         "7 of 7 features: the id does not fit: it has 1 to 32 of the letters a to z and A to Z, the digits, _, - and ., and a letter is the first "
         "(--prefix puts letters before it): feature 1 ('0'); feature 2 ('1'); feature 3 ('2'); feature 4 ('3'); feature 5 ('4') ..",
-        "7 of 7 features: no floor: the property 'base' is not there; the properties are name, low",
-        "7 of 7 features: no top: the property 'height' is not there; the properties are name, low",
-        "feature 1 (the outer ring): a ring is open: it does not end with the point at which it begins",
-        "nothing was written: 7 of 7 cannot be registered"]
+        "7 of 7 features: no floor: the property 'base' is not there; the properties are name, low; fill it, or name another by --floor",
+        "7 of 7 features: no top: the property 'height' is not there; the properties are name, low; fill it, or name another by --top",
+        "feature 1 (the outer ring): a ring is open: it does not end with the point at which it begins; end it with this point",
+        "nothing was written: 7 of 7 cannot be registered: correct them in the plan"]
 
 
 def test_an_id_that_comes_twice(written):
-    assert script(written(lot(), lot()))[2][0] == "feature 2, a (feature 1): the id is that of a feature before"
+    assert script(written(lot(), lot()))[2][0] == "feature 2, a (feature 1): the id is that of a feature before; give it another id, or take --number with --prefix"
 
 
 def test_a_plan_that_is_too_wide_is_told_once(written):
@@ -216,7 +216,7 @@ def test_degrees_are_projected_by_proj(written):
 
 
 def test_numbers_that_are_no_degrees(written):
-    with pytest.raises(Fault, match="has no such numbers: .* --from metres"):
+    with pytest.raises(Fault, match="has no such numbers. .* --from metres"):
         script(written(lot([closed((500, 0), (501, 0), (501, 1))])), None)
 
 
@@ -235,7 +235,7 @@ def test_feet_are_told_from_metres(written):
 
 def test_grids_that_do_not_do(written, tmp_path):
     path = written(lot(), crs=UTM)
-    for given, told in (({"to": "EPSG:0"}, "no grid has this name"), ({"to": "EPSG:4326"}, "in degrees"), ({"source": "EPSG:4326"}, "in degrees")):
+    for given, told in (({"to": "EPSG:0"}, "no grid has the name 'EPSG:0'"), ({"to": "EPSG:4326"}, "in degrees"), ({"source": "EPSG:4326"}, "in degrees")):
         with pytest.raises(Fault, match=told):
             script(path, **{"source": None, **given})
     with pytest.raises(Fault, match="does not say in which grid"):
@@ -400,8 +400,8 @@ def test_the_words_of_the_command_line(written):
     assert said == (f"rpstore-gis: limits: 1 of 1,024 words of a line, 4 of 256 corners of a prism, {len('register a ' + PRISM)} of 262,144 bytes of a line, "
                     f"{len(told)} of 16,777,216 bytes of a script; parts are not counted, of which all lots have at most 65,536: the store /none cannot be run: "
                     "No such file or directory\n")
-    assert ran(["plan", path])[::2] == (5, "rpstore-gis: the plan is in degrees, of WGS 84, and a register in metres: --to EPSG:NUMBER names its grid, "
-                                           "as EPSG:32631 would do here; --from metres says that the plan is in metres of no grid\n")
+    assert ran(["plan", path])[::2] == (5, "rpstore-gis: the plan is in degrees, of WGS 84, and a register in metres. Nothing was written: --to EPSG:NUMBER "
+                                           "names its grid, as EPSG:32631 would do here; --from metres says that the plan is in metres of no grid.\n")
     assert ran(["plan", path + "x"])[0] == 3 and ran(["plan", path, "--from", "metres", "--top", "roof"])[0] == 4
 
 
@@ -438,7 +438,7 @@ def test_a_lot_that_the_store_would_refuse_is_told_before(written, store):
     court = closed((2, 2), (5, 3), (5, 5), (3, 5))
     houses = lot([[moved(UNIT, 10 * at), moved(court, 10 * at)] for at in range(250)], "MultiPolygon", id="street")
     status, lines, said = script(written(houses, lot([closed((0, 20), (9, 20), (9, 29))], id="b")), program=PROGRAM)
-    assert (status, lines) == (4, []) and said[-1] == "nothing was written: 1 of 2 cannot be registered"
+    assert (status, lines) == (4, []) and said[-1] == "nothing was written: 1 of 2 cannot be registered: correct them in the plan, or leave them out by --leave-out"
     assert said[0].startswith("feature 1, street (") and "250 operands, and a form has at most 1,024): the store refuses its form, which meets a limit" in said[0]
     status, lines, said = script(written(houses, lot([closed((0, 20), (9, 20), (9, 29))], id="b")), program=PROGRAM, leave_out=True)
     assert status == 1 and [line.split(" ")[1] for line in lines if line.startswith("register")] == ["b"] and "limits: 1 of 65,536 parts of all lots" in said[-1]

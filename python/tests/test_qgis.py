@@ -149,7 +149,7 @@ def test_what_is_refused_is_said(run, flats, tmp_path):
     status, said = run("meets", tmp_path / "none.geojson", SCRIPT=flats, REGION="tunnel")
     assert status != 0 and 'the region is no expression: word 1, "tunnel"' in said and not (tmp_path / "none.geojson").exists()
     status, said = run("register", tmp_path / "none.rp", PLAN=ROOT / "examples/plan.geojson", ID="parcel")
-    assert status != 0 and "nothing was written: 3 of 3 cannot be registered" in said and not (tmp_path / "none.rp").exists()
+    assert status != 0 and "nothing was written: 3 of 3 cannot be registered: correct them in the plan" in said and not (tmp_path / "none.rp").exists()
     status, said = run("lots", tmp_path / "none.geojson", SCRIPT=flats, FORM=2, TIME="true")
     assert status != 0 and "sections are of live lots alone" in said and not (tmp_path / "none.geojson").exists()
 

@@ -42,7 +42,7 @@ def registered(text, **given):
 
 def refused(text, **given):
     status, lines, said = made(text, **given)
-    assert (status, lines, said[-1]) == (4, [], "nothing was written: 1 of 1 cannot be registered")
+    assert (status, lines, said[-1]) == (4, [], "nothing was written: 1 of 1 cannot be registered: correct them in the model")
     return said[0]
 
 
@@ -181,7 +181,7 @@ def test_several_solids_are_joined():
 def test_the_finest_level_of_detail_or_the_one_that_is_named():
     text = Writer().add("a", [CUBE], lod="1.2").add("a", [GABLE], lod="2.2").text()
     assert "half" in registered(text)[0] and registered(text, lod="1.2") == [f"register a {ROOM}"]
-    assert refused(text, lod="3") == "feature 1, a (it has 1.2, 2.2): no solid of the level of detail 3"
+    assert refused(text, lod="3") == "feature 1, a (it has 1.2, 2.2): no solid of the level of detail 3; name one that it has by --lod"
 
 
 def test_parents_are_passed_over_and_give_their_attributes():
@@ -202,7 +202,7 @@ def test_layers_attributes_and_sections():
 
 
 def test_an_id_that_comes_twice():
-    assert made(Writer().add("x", [CUBE], id="a").add("y", [CUBE], id="a", parents=["z"]).text())[2][0] == "feature 2, a (feature 1): the id is that of a feature before"
+    assert made(Writer().add("x", [CUBE], id="a").add("y", [CUBE], id="a", parents=["z"]).text())[2][0] == "feature 2, a (feature 1): the id is that of a feature before; give it another id, or take --number with --prefix"
 
 
 def test_a_model_in_lines():
@@ -429,7 +429,7 @@ NO_MODEL = [b"", b"x", b"[]", b"{", b'{"type": "CityJSON"}', b'{"a":' + b"[" * 1
 def test_what_is_no_model(text):
     with pytest.raises(Fault) as found:
         made(text)
-    assert found.value.status == 3 and "Nothing was written." in str(found.value)
+    assert found.value.status == 3 and "Nothing was written" in str(found.value)
 
 
 @pytest.mark.parametrize("boundaries", [None, 7, [], [[]], [[[]]], [[[[0, 1, 99]]]], [[[[0, 1, -1]]]], [[[[0, 1, True]]]], [[[0, 1, 2]]], "x", {"a": []}, [[[[]]]]])

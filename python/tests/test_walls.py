@@ -107,6 +107,7 @@ def test_the_words(store):
     assert ran(["walls", "--lot", "c"], SCRIPT)[1].count(b"\n") == 3 == ran(["walls", "--lot", "c", "--lot", "c"], SCRIPT)[1].count(b"\n")
     assert ran(["walls", "--lot", "d"], SCRIPT)[1] == b"lot,other,layer,meets_at,wall_m2,edge_m\n"
     assert ran(["walls", "--lot", "x"], SCRIPT) == (2, b"", "rpstore-gis: no live lot is called x: `list` in the script shows which are. Nothing was asked.\n")
+    assert ran(["walls", "--lot", "a1"], SCRIPT) == (2, b"", "rpstore-gis: no live lot is called a1; did you mean 'a'? Nothing was asked.\n")
     assert ran(["walls", "--asof", "2"], SCRIPT)[1].count(b"\n") == 2
 
 

@@ -33,11 +33,14 @@ def test_a_picture_of_a_script(store):
 
 NOTHING = ("Nothing was written: name the script that was run in its place, and its live lots are shown; or run the script again with a line `show lot X` "
            "after it for each lot X.")
+AGAIN = "Nothing was written: run its script again, and take the whole report."
 # The words, what they read, the status, and what is said.
 REFUSED = [
-    (["picture"], SECTION.replace(b"= ring", b"= circle", 1), 1, "line 5 of the report: a line that shows a slice is due here"),
-    (["picture"], b"\n".join(SECTION.splitlines()[:3]) + b"\n", 1, "line 4 of the report: it ends in an answer; the line `= sections` with a number is due here"),
-    (["picture"], b"> 1 list\n= parcels 0\n", 1, "the report has no line `section` that shows something: `section lot X 1.500` cuts the lot X at 1.5 m"),
+    (["picture"], SECTION.replace(b"= ring", b"= circle", 1), 1, f"line 5 of the report: a line that shows a slice is due here. {AGAIN}"),
+    (["picture"], b"\n".join(SECTION.splitlines()[:3]) + b"\n", 1,
+     f"line 4 of the report: it ends in an answer; the line `= sections` with a number is due here. {AGAIN}"),
+    (["picture"], b"> 1 list\n= parcels 0\n", 1, "the report has no line `section` that shows something. Nothing was written: add a line to the "
+     "script, as `section lot X 1.500`, which cuts the lot X at 1.5 m."),
     (["measures"], b"> 1 list\n= parcels 0\n", 1,
      f"the report shows no lot, no region with an end and no section. {NOTHING}"),
     (["view"], b"> 1 list\n= parcels 0\n", 1, f"the report shows no lot and no region with an end. {NOTHING}"),
@@ -45,7 +48,8 @@ REFUSED = [
     (["view"], b"register a box 0 0 0 1 1 1\nretire a\n", 1, "after the script there is no lot and no region with an end. Nothing was written."),
     (["city"], b"let a = box 0 0 0 1 1 1\n", 1, "after the script there is no lot with an end. Nothing was written."),
     (["extract", "-", "a"], SECTION, 2, "extract needs a script, and this is a report: name the script that was run. Nothing was written."),
-    (["view", "no such file"], b"", 3, "the input cannot be read: No such file or directory"),
+    (["view", "no such file"], b"", 3, "no such file cannot be read: No such file or directory. Nothing was written: correct the path, or ask who may read "
+     "the file."),
 ]
 
 
@@ -54,18 +58,21 @@ def test_what_is_refused(words, given, status, said, store):
     assert ran(words, given) == (status, b"", f"rpstore-gis: {said}\n")
 
 
+DROP = "Drop what is there of it, make room or name another path by -o, and run again."
+
+
 def test_input_and_output_that_fail():
     words = ["picture", "--unchecked"]
-    assert ran([*words, "/"])[::2] == (3, "rpstore-gis: the input cannot be read: Is a directory\n")
+    assert ran([*words, "/"])[::2] == (3, "rpstore-gis: / cannot be read: Is a directory. Nothing was written: correct the path, or ask who may read the file.\n")
     with open("/dev/full", "wb") as full:
-        assert ran(words, SECTION, stdout=full)[::2] == (4, "rpstore-gis: the output cannot be written: No space left on device\n")
-    assert ran([*words, "-o", "/no such folder/a.svg"], SECTION) == (4, b"", "rpstore-gis: the output cannot be written: No such file or directory\n")
+        assert ran(words, SECTION, stdout=full)[::2] == (4, f"rpstore-gis: standard output cannot be written: No space left on device. {DROP}\n")
+    assert ran([*words, "-o", "/no such folder/a.svg"], SECTION) == (4, b"", f"rpstore-gis: /no such folder/a.svg cannot be written: No such file or directory. {DROP}\n")
 
 
 def test_a_report_that_is_too_long():
     proof = b"  in" + 4 * (b" (" + 900 * b"1" + b" 0 0 1)") + b"\n"
     report = b"> 1 member all 0 0 0 1\n" + proof * (67108864 // len(proof) + 1)
-    assert ran(["picture", "--unchecked"], report) == (6, b"", "rpstore-gis: the report has more than 67108864 bytes\n")
+    assert ran(["picture", "--unchecked"], report) == (6, b"", "rpstore-gis: the report has more than 67,108,864 bytes. Nothing was written: name its script in its place.\n")
 
 
 # Runs the words with reports of which `check` reads one byte less than they have.
@@ -102,10 +109,22 @@ def test_scripts_with_reports_that_are_too_long_to_be_checked(words, store, tmp_
     assert done.stdout == full or words[0] == "view" and abs(len(done.stdout) - len(full)) < 60
 
 
-@pytest.mark.parametrize("words", [["picture", "--width", "199"], ["picture", "--width", "20001"], ["picture", "--width", "x"], ["draw"], []])
-def test_words_that_are_not_known(words):
-    status, out, said = ran(words)
-    assert (status, out) == (2, b"") and said.startswith("usage: rpstore-gis")
+MISTYPED = [
+    (["picture", "--width", "199"], "argument --width: '199' is no width: write pixels from 200 to 20000 (rpstore-gis picture --help says more)."),
+    (["picture", "--width", "20001"], "argument --width: '20001' is no width: write pixels from 200 to 20000 (rpstore-gis picture --help says more)."),
+    (["picture", "--width", "x"], "argument --width: 'x' is no width: write pixels from 200 to 20000 (rpstore-gis picture --help says more)."),
+    (["picture", "--widht", "500"], "unknown word '--widht'; did you mean '--width'?"),
+    (["picture", "a", "b"], "unknown word 'b'; rpstore-gis picture --help lists the words."),
+    (["vew"], "unknown word 'vew'; did you mean 'view'?"),
+    (["draw"], "unknown word 'draw'; rpstore-gis --help lists the words."),
+    (["x'x"], 'unknown word "x\'x"; rpstore-gis --help lists the words.'),
+    ([], "no word was given; rpstore-gis --help lists the words."),
+]
+
+
+@pytest.mark.parametrize("words, said", MISTYPED)
+def test_words_that_are_not_known(words, said):
+    assert ran(words) == (2, b"", f"rpstore-gis: {said} Nothing was read or written.\n")
 
 
 def lines_of_documents():

@@ -45,7 +45,7 @@ def write(words: Sequence[str], path: str, feedback: QgsProcessingFeedback) -> N
     try:
         done = subprocess.run([program(), *words, "-o", path], stdout=subprocess.PIPE, stderr=subprocess.PIPE, env={**free, **settings()})
     except OSError as error:
-        raise QgsProcessingException(f"rpstore-gis cannot be run: {error}. Nothing was run.")
+        raise QgsProcessingException(f"rpstore-gis cannot be run: {error}. Nothing was run: correct its path in the options of Processing under Providers, rpstore.")
     said = done.stderr.decode("utf-8", "replace").strip()
     if done.returncode not in WRITTEN or not os.path.exists(path):
         raise QgsProcessingException(said or f"rpstore-gis ended with status {done.returncode}, and wrote nothing.")

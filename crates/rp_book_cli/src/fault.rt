@@ -55,17 +55,18 @@ impl From<SealFault> for Fault {
 fn path_message(fault: PathFault) -> &'static str {
     match fault {
         PathFault::Missing => {
-            "there is no such file or folder: look at the path; 'new' makes a book in a folder that is there"
+            "no such file or folder, and nothing was read or written: correct the path, or make a book with 'new' in a folder that is there"
         }
-        PathFault::NoFile => "the path names a folder or a device: name the file of the book",
+        PathFault::NoFile =>
+            "the path names a folder or a device, and nothing was read or written: name the file of the book",
         PathFault::Linked => {
-            "the file or its log (FILE-wal) has another name, by a link, and is not opened: remove the other name, or copy both with cp and use the copy"
+            "the file or its log (FILE-wal) has a second name by a link; the book was not opened: remove that name, or copy both with cp and use the copy"
         }
         PathFault::Journal => {
-            "SQLite left a journal next to the file (FILE-journal): open the file with sqlite3 once, or restore a backup"
+            "SQLite left a journal next to the file (FILE-journal), so the book was not opened: open the file with sqlite3 once, or restore a backup"
         }
         PathFault::Denied => {
-            "the file, its log (FILE-wal) or its folder may not be read and written by you: ask who owns them, or copy both with cp and ask the copy"
+            "you may not read and write the file, its log (FILE-wal) or its folder; the book was not opened: ask their owner, or copy both with cp and ask the copy"
         }
     }
 }
@@ -77,40 +78,47 @@ fn file_message(fault: FileFault) -> &'static str {
             "the file is no book; it is as it was: name a book, or make one with 'new'"
         }
         FileFault::Damaged => {
-            "the file is a database that cannot be read; it is as it was: a page is damaged, or another program wrote it (sqlite3's .backup and VACUUM INTO leave out the sums of pages); restore a backup (docs/office.md, Back up and restore)"
+            "the file is a database that cannot be read; it is as it was: a page is damaged, or sqlite3 wrote it without sums (.backup, VACUUM INTO). Restore a backup (docs/office.md, Back up and restore)"
         }
         FileFault::Layout => {
-            "the file is a book of another layout, which this program does not read; it is as it was"
+            "the file is a book of another layout, which this release does not read; it is as it was: take the release that made it"
         }
-        FileFault::Taken => "the file is a database with tables already; it is as it was",
+        FileFault::Taken =>
+            "the file is already a book, or another database with tables; it is as it was: give 'new' another name",
         FileFault::There => {
-            "the file or its log (FILE-wal) is there already, and is as it was: give another name"
+            "the file TO or its log (TO-wal) is there already, and is as it was: give another name"
         }
         FileFault::CutOff => {
-            "an earlier copy was cut off: remove FILE-part and FILE-part-wal, and copy again"
+            "an earlier copy was cut off, and what it left is as it was: remove TO-part and TO-part-wal, and copy again"
         }
         FileFault::CannotOpen(fault) => path_message(fault),
         FileFault::Busy => {
-            "another process has the book open: try again when it has ended; the book is as it was"
+            "another process has the book open: try again later, or wait longer with --wait SECONDS; the book is as it was"
         }
-        FileFault::Memory => "out of memory; the book is as it was",
-        FileFault::Full => "the disk is full; the book is as it was",
-        FileFault::Disk => "the disk failed; the book is as it was",
+        FileFault::Memory => "out of memory; the book is as it was: free memory, and try again",
+        FileFault::Full => "the disk is full; the book is as it was: make room, and try again",
+        FileFault::Disk =>
+            "the disk failed; the book is as it was: copy the file and its log (FILE-wal) to another disk, and try again there",
     }
 }
 
 /// Returns what is said of a stop, without how many bytes there are.
 fn stop_message(stop: Stop) -> &'static str {
     match stop {
-        Stop::Read => "reading the input failed; the book is as it was",
-        Stop::Put => "writing the output failed; the book is as it was",
+        Stop::Read =>
+            "the input could not be read; the book is as it was: name a file that you may read after '<'",
+        Stop::Put =>
+            "the output could not be written to its end; the book is as it was: make room for the output, and run again",
         Stop::Memory(_) | Stop::Book(BookFault::Memory(_)) => {
-            "out of memory; the book is as it was"
+            "out of memory; the book is as it was: free memory, and try again"
         }
         Stop::TooLong(_) => "the script of the book would be too long; the book is as it was",
-        Stop::Change => "a line changes the register: only questions are taken here",
-        Stop::Book(BookFault::Full) => "the disk is full; the book is as it was",
-        Stop::Book(BookFault::Disk) => "the disk failed; the book is as it was",
+        Stop::Change =>
+            "a line changes the register, and 'ask' answers questions alone; the book is as it was: give this line to 'add'",
+        Stop::Book(BookFault::Full) =>
+            "the disk is full; the book is as it was: make room, and try again",
+        Stop::Book(BookFault::Disk) =>
+            "the disk failed; the book is as it was: copy the file and its log (FILE-wal) to another disk, and try again there",
     }
 }
 
@@ -118,14 +126,15 @@ fn stop_message(stop: Stop) -> &'static str {
 fn message(fault: Fault) -> &'static str {
     match fault {
         Fault::Unlisted => {
-            "these words are not known; nothing was read or written. After the name of the file come: new [1], add [--brief] [--layer LAYER] [WHO [DEED]], ask, history ID, asof DATE [LAYER] X Y Z W, script, report, size, line DATE, copy TO, seal ORIGIN, verify SEAL, prove ACT, link SEAL, acts [FROM], replay. Without a book: check-act PROOF SEAL, check-link OLD NEW LINK"
+            "no command has these words; nothing was read or written. After the name of the file come: new [1], add [--brief] [--layer LAYER] [WHO [DEED]], ask, history ID, asof DATE [LAYER] X Y Z W, script, report, size, line DATE, copy TO, seal ORIGIN, verify SEAL, prove ACT, link SEAL, acts [FROM], replay. Without a book: check-act PROOF SEAL, check-link OLD NEW LINK"
         }
         Fault::Words => {
-            "the words of the command line cannot be read, or a line feed or the like stands in one"
+            "a word of the command line is not UTF-8, or has a control character, as a line feed; nothing was read or written: type it again"
         }
-        Fault::NoDate => "a date is written as 2026-11-30; nothing was asked",
+        Fault::NoDate =>
+            "a date is a year, a month and a day, as 2026-11-30; nothing was read or written",
         Fault::NoDay => {
-            "the calendar does not have this date (year-month-day, as 2026-11-30); nothing was asked"
+            "the calendar does not have this date (year-month-day, as 2026-11-30); nothing was read or written"
         }
         Fault::NoLayer => {
             "a layer is a name of 1 to 32 letters, digits, '_', '-' and '.', a letter first; nothing was read or written"
@@ -159,7 +168,7 @@ impl fmt::Display for Fault {
         };
         write!(
             f,
-            "the script of the book, with these lines, would have {than}{bytes} bytes, and may have {MOST_SCRIPT_BYTES}; the book is as it was"
+            "the script of the book, with these lines, would have {than}{bytes} bytes, and may have {MOST_SCRIPT_BYTES}; the book is as it was: begin another book (docs/office.md)"
         )
     }
 }

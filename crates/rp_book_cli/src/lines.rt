@@ -16,7 +16,9 @@ use std::thread::Threads;
 /// latter out if there is not enough memory to read `lines` once more.
 fn tell_refused(rt: &HostRuntime, version: Version, lines: &[u8]) -> io::Result<()> {
     if !are_of_other(rt.alloc(), version, lines).unwrap_or(false) {
-        return eprintln!(rt; "rpstore-book: a line is refused; nothing was added");
+        return eprintln!(rt;
+            "rpstore-book: a line is refused; nothing was added: correct the line whose answer is '= refused', and add all lines again"
+        );
     }
     let versions = match version {
         Version::One =>
@@ -36,7 +38,9 @@ fn tell_outcome<B: Book>(
 ) -> io::Result<()> {
     match outcome {
         Outcome::Refused => tell_refused(rt, version_after(book.text(), lines), lines),
-        Outcome::Empty => eprintln!(rt; "rpstore-book: there are no lines; nothing was added"),
+        Outcome::Empty => eprintln!(rt;
+            "rpstore-book: the input has no lines, so nothing was added: give lines on standard input"
+        ),
         Outcome::Added(addition) => tell_addition(rt, book, addition),
     }
 }

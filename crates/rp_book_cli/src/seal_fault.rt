@@ -44,12 +44,13 @@ pub enum SealFault {
 fn unread_message(text: Text) -> &'static str {
     match text {
         Text::Seal =>
-            "the file of the seal cannot be read: look at its path, and ask who may read it",
+            "the file of the seal cannot be read, so nothing was written: look at its path, and ask who may read it",
         Text::Proof =>
-            "the file of the proof cannot be read: look at its path, and ask who may read it",
+            "the file of the proof cannot be read, so nothing was written: look at its path, and ask who may read it",
         Text::Link =>
-            "the file of the link cannot be read: look at its path, and ask who may read it",
-        Text::Acts => "reading the input failed; the book is as it was",
+            "the file of the link cannot be read, so nothing was written: look at its path, and ask who may read it",
+        Text::Acts =>
+            "the input could not be read; the book is as it was: name a file that you may read after '<'",
     }
 }
 
@@ -57,13 +58,13 @@ fn unread_message(text: Text) -> &'static str {
 fn other_message(text: Text) -> &'static str {
     match text {
         Text::Seal => {
-            "the file is no seal: a seal begins with three lines, the origin, the number of acts and the root hash in base64"
+            "the file is no seal, and nothing was accepted: a seal begins with three lines, the origin, the number of acts and the root hash in base64"
         }
         Text::Proof => {
-            "the file is no proof of an act, or a byte of it was changed: ask for the file that 'prove' wrote"
+            "the file is no proof of an act, or a byte of it was changed, and nothing was accepted: ask for the file that 'prove' wrote"
         }
         Text::Link => {
-            "the file is no link, or a byte of it was changed: ask for the file that 'link' wrote"
+            "the file is no link, or a byte of it was changed, and nothing was accepted: ask for the file that 'link' wrote"
         }
         Text::Acts => {
             "the input is no stream of acts, or it was cut off or changed; the book is as it was: ask for what 'acts' wrote"
@@ -86,7 +87,7 @@ pub fn seal_message(fault: SealFault) -> &'static str {
             "refused: the book does not begin with the sealed acts. An act was changed, or the seal is of another book"
         }
         SealFault::OtherOrigin => {
-            "refused: the seals have different origins, so they are of two registers"
+            "refused: the seals have different origins, so they are of two registers: take two seals of one register"
         }
         SealFault::NotIncluded => {
             "refused: the proof does not lead from this act to this seal. A proof fits the seal of as many acts as its line 'size' says"
@@ -97,7 +98,8 @@ pub fn seal_message(fault: SealFault) -> &'static str {
         SealFault::Shorter => {
             "refused: the book has fewer acts than were sealed. It is an older copy, or the seal is of another book"
         }
-        SealFault::NoAct => "the book has no act with this number: 'size' says how many it has",
+        SealFault::NoAct =>
+            "the book has no act with this number, so nothing was written: 'size' says how many it has",
         SealFault::NoContinuation => {
             "refused: the acts do not continue the book, which is as it was: ask the other book for 'acts N', where N is one more than the acts that 'size' says"
         }

@@ -28,7 +28,9 @@ pub fn add_acts<T: Threads + Sync, B: Book>(
             Ok(false)
         }
         Replayed::Refused => {
-            let _ = eprintln!(rt; "rpstore-book: a line is refused; nothing was added");
+            let _ = eprintln!(rt;
+                "rpstore-book: a line of the acts is refused; nothing was added: check the report of the other book"
+            );
             Ok(true)
         }
         Replayed::Unlike { .. } => Err(Fault::Seal(SealFault::NoContinuation)),

@@ -34,15 +34,23 @@ fn status_of_error(error: &io::Error) -> u8 {
 fn message(status: u8) -> Option<&'static str> {
     match status {
         UNLISTED => Some(
-            "these words are not known; the listed ones are: run, run brief, check, script, upgrade, make N SEED, trial N SEED",
+            "no command has these words: use run, run brief, check, script, upgrade, make N SEED or trial N SEED, N from 1 to 1000. Nothing was read or written.",
         ),
-        READ_FAILED => Some("reading the input failed"),
-        PUT_FAILED => Some("writing the output failed"),
-        OUT_OF_MEMORY => Some("out of memory"),
+        READ_FAILED => Some(
+            "the input could not be read: name a file that you may read after '<'. Nothing was written.",
+        ),
+        PUT_FAILED => Some(
+            "the output could not be written to its end: make room for it, drop the part that is there, and run again.",
+        ),
+        OUT_OF_MEMORY => Some(
+            "out of memory, so the output is missing or a part of it: drop that part, free memory, and run again.",
+        ),
         TOO_LONG => Some(
-            "the input is too long: a script may have 16777216 bytes, a report that is checked 67108864",
+            "the input is too long: a script may have 16777216 bytes, a report for check 67108864. Nothing was written: divide the script.",
         ),
-        UNREADABLE_WORDS => Some("the words of the command line cannot be read"),
+        UNREADABLE_WORDS => Some(
+            "a word of the command line cannot be read: type it in UTF-8. Nothing was read or written.",
+        ),
         _ => None,
     }
 }
