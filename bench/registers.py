@@ -184,6 +184,45 @@ def among_wide(count):
     return lines + [f"register p{number} {regions.box((16 * number + 1, 99, 0), (16 * number + 2, 100, 1))}" for number in range(count)]
 
 
+def registered(name, boxes):
+    """Registers a lot of 1,024 boxes, made under four names."""
+    pieces = [boxes[start : start + 256] for start in range(0, len(boxes), 256)]
+    lets = [f"let {name}-{number} = {regions.joined('or', piece)}" for number, piece in enumerate(pieces)]
+    return lets + [f"register {name} {regions.joined('or', [f'name {name}-{number}' for number in range(len(pieces))])}"]
+
+
+def interleaved(count):
+    """Lots of 1,024 boxes each, strewn along one diagonal: the boxes around all lots meet and no parts do. Then all are audited."""
+    lines = []
+    for lot in range(count):
+        boxes = [regions.box((16_000 * step - 8_000_000, 200 * step + 2 * lot, 0), (16_000 * step - 7_999_999, 200 * step + 2 * lot + 1, 1)) for step in range(1024)]
+        lines += registered(f"w{lot}", boxes)
+    return lines + ["audit"]
+
+
+def chessboard(count):
+    """Lots of 1,024 boxes each: a board of 32 by 32 squares has one box of each lot in each square, side by side and apart.
+    Then all are audited."""
+    edge = math.ceil(math.sqrt(count))
+    lines = []
+    for lot in range(count):
+        places = [(20 * (edge * column + lot % edge), 20 * (edge * row + lot // edge)) for column in range(32) for row in range(32)]
+        lines += registered(f"c{lot}", [regions.box((x, y, 0), (x + 19, y + 19, 10)) for x, y in places])
+    return lines + ["audit"]
+
+
+def interleaved_slabs(count):
+    """The first of these, but the last part of each lot is a slanted slab: the boxes around all slabs are one, and no slabs meet.
+    So every two lots have one pair of parts that is tested."""
+    lines = []
+    for lot in range(count):
+        boxes = [regions.box((16_000 * step - 8_000_000, 200 * step + 2 * lot, 0), (16_000 * step - 7_999_999, 200 * step + 2 * lot + 1, 1)) for step in range(1023)]
+        low, high = 1_000_000 + 9 * lot, 1_000_004 + 9 * lot
+        slab = f"and and {regions.box((0, 0, 100), (1_000_000, 1_100_000, 200))} half 1 1 0 {-low} half -1 -1 0 {high}"
+        lines += registered(f"s{lot}", boxes + [slab])
+    return lines + ["audit"]
+
+
 def one_place(count):
     """The same box in each of so many layers, registered."""
     return [line for number in range(count) for line in (f"layer q{number}", f"register p{number} {regions.box((0, 0, 0), (9, 9, 9))}")]

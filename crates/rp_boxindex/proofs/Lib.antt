@@ -20,3 +20,4 @@ pub mod Taken
 pub mod Trees
 pub mod Visits
 pub mod Walks
+pub mod Wider

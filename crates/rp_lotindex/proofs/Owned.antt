@@ -34,7 +34,8 @@ use Rattle.rp_lotindex.specs.Cubes.{live_number, past_number, moved, moved_in, m
 use Rattle.rp_lotindex.specs.Stretches.{stretch_of, stretches_with}
 use Rattle.rp_proximity.specs.There.{is_there, owner_verdict, IsLine, KnowsOwners, BoxesHold}
 use Rattle.rp_lotindex.specs.Owner.{is_there_at, boxes_past, boxes_asked, lesser_of, first_in, IsOwner}
-use Rattle.rp_lotindex.proofs.Hulls.{listed_image, part_boxed, wider_meet}
+use Rattle.rp_boxindex.proofs.Wider.{wider_meet}
+use Rattle.rp_lotindex.proofs.Hulls.{listed_image, part_boxed}
 use Rattle.rp_lotindex.proofs.Cubes.{moved_in_meet, turn_listed}
 use Rattle.rp_lotindex.proofs.Boxed.{none_meet, lot_box}
 use Rattle.rp_lotindex.proofs.Stretches.{stretch_listed, past_listed}

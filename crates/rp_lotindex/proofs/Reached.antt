@@ -30,7 +30,8 @@ use Rattle.rp_lotindex.specs.Turns.{axis_of}
 use Rattle.rp_lotindex.specs.Cubes.{live_number, moved, moved_in, in_turns}
 use Rattle.rp_proximity.specs.Near.{may_meet, is_near, AreWithin}
 use Rattle.rp_lotindex.specs.Near.{is_closed, places_by, places_each, places_met, is_listed}
-use Rattle.rp_lotindex.proofs.Hulls.{listed_image, part_boxed, wider_meet}
+use Rattle.rp_boxindex.proofs.Wider.{wider_meet}
+use Rattle.rp_lotindex.proofs.Hulls.{listed_image, part_boxed}
 use Rattle.rp_lotindex.proofs.Cubes.{moved_in_meet, turn_listed}
 use Rattle.rp_lotindex.proofs.Boxed.{none_meet, live_boxes, lot_box, none_behind_lots}
 

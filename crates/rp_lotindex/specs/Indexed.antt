@@ -4,23 +4,14 @@ use Rattle.std.specs.FinMap.{get, empty}
 use Rattle.std.specs.Map.{lookup}
 use Rattle.rp_geometry.specs.Geometry.{IntegerBox, cube_box}
 use Rattle.rp_geometry.specs.sets.Shape.{Part}
-use Rattle.rp_geometry.specs.parts.LeastBox.{box_union}
 use Rattle.rp_language.specs.Name.{Label, label_eq}
 use Rattle.rp_space.specs.Boxes.{integer_box}
 use Rattle.rp_model.specs.states.State.{Lot, NewLot, bare_lot}
 use Rattle.rp_boxindex.specs.Boxes.{Boxes}
+use Rattle.rp_proximity.specs.Hulls.{bounds_of, joined}
 use Rattle.rp_lotindex.specs.declared.boxes.LotBoxes.{LotBoxes}
 use Rattle.rp_lotindex.specs.Cubes.{moved, moved_past}
 use Rattle.rp_lotindex.specs.Stretches.{stretch_of}
-
--- the boxes of parts, in order
-abbrev pub bounds_of : List Part → List IntegerBox
-bounds_of ps = map (λ p. p.bounds) ps
-
--- the least box around a box and further ones
-abbrev pub joined : IntegerBox → List IntegerBox → IntegerBox
-joined b [] = b
-joined b (c ∷ cs) = joined (box_union b c) cs
 
 -- the least box around some boxes; the cube if there are none
 abbrev pub hull_of : List IntegerBox → IntegerBox

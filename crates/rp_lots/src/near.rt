@@ -6,7 +6,7 @@ ghost use Rattle.rp_model.specs.commands.Parts.{count_pairs};
 ghost use Rattle.rp_proximity.specs.Near.{may_meet, others_in, pairs_with, is_near, lots_at, AreWithin};
 ghost use Rattle.rp_space.specs.Boxes.{integer_box};
 ghost use Rattle.rp_oracle.specs.Refines.{Refines};
-ghost use Rattle.rp_lots.specs.Boxes.{boxes_let};
+ghost use Rattle.rp_lots.specs.Boxes.{boxes_let, IsAround};
 ghost use Rattle.rp_lots.specs.Counted.{CountsUpTo};
 
 use crate::keeper::Keeper;
@@ -15,6 +15,11 @@ use rp_oracle::{MAX_TESTS, Oracle, Stopped};
 use rp_proximity::Reach;
 use rp_space::IntBox;
 use std::alloc::Global;
+
+/// How many parts have one box around them while pairs of parts are counted. Each part of the other list is compared
+/// with each such box, and with the parts in the boxes that it meets. Blocks of fewer parts have more boxes, blocks of
+/// more have wider ones: 32 parts made the fewest comparisons for lots of 1,024 boxes in rows and in a chessboard.
+const BLOCK: usize = 32;
 
 /// The lots that may meet a form: their places among all lots, and the number of pairs of parts that may meet.
 #[derive(Drop)]
@@ -33,7 +38,8 @@ pub fn count_pairs<T: Oracle, K: Keeper<T>>(form: &T::Form, other: &T::Form, rea
     count_among::<T, K>(T::parts(form), T::parts(other), reach)
 }
 
-/// Returns the number of pairs of a part of `parts` and one of `others` that may meet.
+/// Returns the number of pairs of a part of `parts` and one of `others` that may meet. The count goes by blocks of
+/// `parts`: most of `others` are compared with the box around a block, and not with each part in the block.
 fn count_among<T: Oracle, K: Keeper<T>>(parts: &[T::Part], others: &[T::Part], reach: Reach) -> u64
     requires first { length parts.now ≤ most_parts }
     requires second { length others.now ≤ most_parts }
@@ -41,20 +47,92 @@ fn count_among<T: Oracle, K: Keeper<T>>(parts: &[T::Part], others: &[T::Part], r
     ensures few { result ≤ most_parts * most_parts }
 {
     let mut count = 0;
+    let mut rest = parts;
+    while rest.len() > BLOCK {
+        let (block, behind) = rest.split_at(BLOCK);
+        count += count_with_block::<T, K>(block, others, reach);
+        rest = behind;
+    }
+    count + count_with_block::<T, K>(rest, others, reach)
+}
+
+/// Returns the number of pairs of a part of `block` and one of `others` that may meet.
+fn count_with_block<T: Oracle, K: Keeper<T>>(
+    block: &[T::Part],
+    others: &[T::Part],
+    reach: Reach,
+) -> u64
+    requires first { length block.now ≤ most_parts }
+    requires second { length others.now ≤ most_parts }
+    ensures { result ≡ count_pairs (may_meet reach) (map T.seen block.now) (map T.seen others.now) }
+{
+    match block.first() {
+        Some(first) => {
+            let hull = hull_around::<T, K>(first, block);
+            count_within::<T, K>(&hull, block, others, reach)
+        }
+        None => 0,
+    }
+}
+
+/// Returns a box that contains the boxes of `parts`: the least box around these and the box of `first`.
+fn hull_around<T: Oracle, K: Keeper<T>>(first: &T::Part, parts: &[T::Part]) -> IntBox
+    ensures { IsAround (integer_box result) (map T.seen parts.now) }
+{
+    let mut hull = *K::bounds(first);
     for part in parts {
-        count += count_with_part::<T, K>(part, others, reach);
+        hull = hull.union(K::bounds(part));
+    }
+    hull
+}
+
+/// Returns the number of pairs of a part of `block` and one of `others` that may meet. `hull` contains the boxes of the
+/// block.
+fn count_within<T: Oracle, K: Keeper<T>>(
+    hull: &IntBox,
+    block: &[T::Part],
+    others: &[T::Part],
+    reach: Reach,
+) -> u64
+    requires around { IsAround (integer_box hull.now) (map T.seen block.now) }
+    requires first { length block.now ≤ most_parts }
+    requires second { length others.now ≤ most_parts }
+    ensures { result ≡ count_pairs (may_meet reach) (map T.seen block.now) (map T.seen others.now) }
+{
+    let mut count = 0;
+    for other in others {
+        count += count_near_part::<T, K>(hull, block, other, reach);
     }
     count
 }
 
-/// Returns the number of `others` that may meet `part`.
-fn count_with_part<T: Oracle, K: Keeper<T>>(part: &T::Part, others: &[T::Part], reach: Reach) -> u64
-    requires { length others.now ≤ most_parts }
-    ensures value { result ≡ count_by (λ q. may_meet reach (T.seen part.now) q) (map T.seen others.now) }
-    ensures few { result ≤ length others.now }
+/// Returns the number of parts of `block` that may meet `other`. `hull` contains the boxes of the block.
+fn count_near_part<T: Oracle, K: Keeper<T>>(
+    hull: &IntBox,
+    block: &[T::Part],
+    other: &T::Part,
+    reach: Reach,
+) -> u64
+    requires around { IsAround (integer_box hull.now) (map T.seen block.now) }
+    requires few { length block.now ≤ most_parts }
+    ensures value { result ≡ count_by (λ p. may_meet reach p (T.seen other.now)) (map T.seen block.now) }
+    ensures few { result ≤ most_parts }
+{
+    if do_boxes_meet(hull, K::bounds(other), reach) {
+        count_with_part::<T, K>(block, other, reach)
+    } else {
+        0
+    }
+}
+
+/// Returns the number of `parts` that may meet `other`.
+fn count_with_part<T: Oracle, K: Keeper<T>>(parts: &[T::Part], other: &T::Part, reach: Reach) -> u64
+    requires { length parts.now ≤ most_parts }
+    ensures value { result ≡ count_by (λ p. may_meet reach p (T.seen other.now)) (map T.seen parts.now) }
+    ensures few { result ≤ length parts.now }
 {
     let mut count = 0;
-    for other in others {
+    for part in parts {
         if may_meet::<T, K>(part, other, reach) {
             count += 1;
         }

@@ -16,7 +16,8 @@ use Rattle.rp_history.specs.Lots.{lots_after}
 use Rattle.rp_history.specs.Parts.{lots_with_parts, new_lots}
 use Rattle.rp_history.proofs.Together.{length-with_parts}
 use Rattle.rp_boxindex.specs.Boxes.{Boxes}
-use Rattle.rp_lotindex.specs.Indexed.{joined, hull_of_parts, boxes_of, boxes_of_parts, box_at, box_in, box_among, boxes_born, is_layer, ArePut, StaySame, OthersStay, AreFree, AreBorn, AllStay, AreRemoved, AreSettled, IsIndexOf}
+use Rattle.rp_proximity.specs.Hulls.{joined}
+use Rattle.rp_lotindex.specs.Indexed.{hull_of_parts, boxes_of, boxes_of_parts, box_at, box_in, box_among, boxes_born, is_layer, ArePut, StaySame, OthersStay, AreFree, AreBorn, AllStay, AreRemoved, AreSettled, IsIndexOf}
 use Rattle.rp_lotindex.proofs.Boxed.{indexed_after, indexed_again, indexed_none, free_after_lots}
 use Rattle.rp_lotindex.proofs.Hulls.{boxes_few}
 use Rattle.rp_lotindex.proofs.Put.{put_first, put_none, put_both, none_behind_put}

@@ -1,7 +1,8 @@
 //! The boxes around forms.
 ghost use Rattle.std.specs.Prelude.{◌≡◌, map};
 ghost use Rattle.rp_space.specs.Boxes.{integer_box};
-ghost use Rattle.rp_lotindex.specs.Indexed.{hull_of_parts, joined};
+ghost use Rattle.rp_proximity.specs.Hulls.{joined};
+ghost use Rattle.rp_lotindex.specs.Indexed.{hull_of_parts};
 
 use crate::forms::Forms;
 use rp_space::IntBox;

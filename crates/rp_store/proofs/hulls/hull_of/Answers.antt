@@ -1,6 +1,7 @@
 use Rattle.std.proofs.Common.{List, map, ap, ◌∙◌}
 use Rattle.std.proofs.lemmas.List.{take_rest}
-use Rattle.rp_lotindex.specs.Indexed.{joined, hull_of_parts}
+use Rattle.rp_proximity.specs.Hulls.{joined}
+use Rattle.rp_lotindex.specs.Indexed.{hull_of_parts}
 use Rattle.rp_store.proofs.Boxed.{hull_by_first}
 use Rattle.rp_store.proofs.hulls.hull_of.Goals as goal
 

@@ -1,6 +1,6 @@
 use Rattle.std.proofs.Common.{◌≡◌, map, drop}
 use Rattle.rp_space.specs.Boxes.{integer_box}
-use Rattle.rp_lotindex.specs.Indexed.{joined}
+use Rattle.rp_proximity.specs.Hulls.{joined}
 use Rattle.rp_store.proofs.hulls.joined.Given as goal
 
 -- the boxes of the parts still to come are left
