@@ -66,17 +66,18 @@ fn write_report<T: Threads + Sync, B: Book>(
 }
 
 /// Writes what is asked about the seals of `book`; nothing for another query. `input` has the seal that the query names.
-fn write_seals<B: Book>(
+fn write_seals<T: Threads + Sync, B: Book>(
     rt: &HostRuntime,
+    threads: &T,
     book: &B,
     input: &[u8],
     query: Query<'_>,
 ) -> Result<(), Fault> {
     match query {
-        Query::Seal(origin) => write_seal(rt, book, origin),
-        Query::Verify(_) => write_verified(rt, book, input),
-        Query::Prove(number) => write_proof(rt, book, number),
-        Query::Link(_) => write_link(rt, book, input),
+        Query::Seal(origin) => write_seal(rt, threads, book, origin),
+        Query::Verify(_) => write_verified(rt, threads, book, input),
+        Query::Prove(number) => write_proof(rt, threads, book, number),
+        Query::Link(_) => write_link(rt, threads, book, input),
         Query::Acts(from) => write_acts(rt, book, from),
         _ => Ok(()),
     }
@@ -99,7 +100,7 @@ pub fn write_query<T: Threads + Sync, B: Book>(
         Query::Size => write_size(rt, threads, book).map(|_| false)?,
         Query::Line(date) => write_line(rt, book, date).map(|_| false)?,
         Query::Seal(_) | Query::Verify(_) | Query::Prove(_) | Query::Link(_) | Query::Acts(_) => {
-            write_seals(rt, book, input, query)?;
+            write_seals(rt, threads, book, input, query)?;
             false
         }
         Query::Ask => false,

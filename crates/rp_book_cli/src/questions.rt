@@ -108,31 +108,43 @@ impl<S: Source> Source for Unmarked<S> {
 }
 
 /// Says on standard error after which act and which line the answers are, with the root hash that a seal of `book` has.
-fn tell_state<B: Book>(rt: &HostRuntime, book: &B) -> Result<(), AllocError> {
+fn tell_state<T: Threads + Sync, B: Book>(
+    rt: &HostRuntime,
+    threads: &T,
+    book: &B,
+) -> Result<(), AllocError> {
     let count = book.acts().len();
     let last = book.acts().last().map_or(0, |act| act.last);
-    let hash = root(rt.alloc(), book)?;
+    let hash = root(threads, rt.alloc(), book)?;
     let text = STANDARD.encode(rt.alloc(), hash.bytes.as_slice())?;
     let _ = eprintln!(rt; "rpstore-book: asked after act {count}, line {last}, root hash {text}");
     Ok(())
 }
 
 /// Copies the script of `book`. Says on standard error of which state of the book the answers are.
-fn copied<B: Book>(rt: &HostRuntime, book: &B) -> Result<Vec<u8>, AllocError>
+fn copied<T: Threads + Sync, B: Book>(
+    rt: &HostRuntime,
+    threads: &T,
+    book: &B,
+) -> Result<Vec<u8>, AllocError>
     ensures end { IfOk result (λ script. IsEnded script.items) }
     ensures short { IfOk result (λ script. length script.items ≤ 16777216) }
 {
-    tell_state(rt, book)?;
+    tell_state(rt, threads, book)?;
     Vec::from_slice(rt.alloc(), book.text())
 }
 
 /// Copies the script of the book in a database, and lets the book go.
-fn script_of<S: Alter + Drop>(rt: &HostRuntime, conn: Connection<S>) -> Result<Vec<u8>, FileFault>
+fn script_of<T: Threads + Sync, S: Alter + Drop>(
+    rt: &HostRuntime,
+    threads: &T,
+    conn: Connection<S>,
+) -> Result<Vec<u8>, FileFault>
     ensures end { IfOk result (λ script. IsEnded script.items) }
     ensures short { IfOk result (λ script. length script.items ≤ 16777216) }
 {
     let (book, _) = open(rt.alloc(), conn)?;
-    let script = copied(rt, &book)?;
+    let script = copied(rt, threads, &book)?;
     Ok(script)
 }
 
@@ -143,7 +155,7 @@ pub fn write_answers<T: Threads + Sync, S: Alter + Drop>(
     threads: &T,
     conn: Connection<S>,
 ) -> Result<bool, Fault> {
-    let script = script_of(rt, conn)?;
+    let script = script_of(rt, threads, conn)?;
     let (version, _) = split_mark(&script);
     let mut source = Unmarked::new(StdSource::new(rt.stdin()), matches!(version, Version::Two));
     let mut sink = StdSink::new(rt.stdout());

@@ -8,11 +8,17 @@ use rp_book_service::Stop;
 use rp_io::StdSink;
 use rp_seal_text::Checkpoint;
 use rp_sealed_book::{SealVerdict, link, prove, put_acts, seal, verify};
+use std::thread::Threads;
 
 /// Writes the seal of `book` under `origin`.
-pub fn write_seal<B: Book>(rt: &HostRuntime, book: &B, origin: &str) -> Result<(), Fault> {
+pub fn write_seal<T: Threads + Sync, B: Book>(
+    rt: &HostRuntime,
+    threads: &T,
+    book: &B,
+    origin: &str,
+) -> Result<(), Fault> {
     let mut sink = StdSink::new(rt.stdout());
-    if seal(rt.alloc(), book, origin, &mut sink).map_err(Stop::from)? {
+    if seal(threads, rt.alloc(), book, origin, &mut sink).map_err(Stop::from)? {
         Ok(())
     } else {
         Err(Fault::Seal(SealFault::NoOrigin))
@@ -32,9 +38,14 @@ fn refusal_of(verdict: SealVerdict) -> Result<(), Fault> {
 ///
 /// # Errors
 /// `Seal` if it does not, or if `text` begins with no seal.
-pub fn write_verified<B: Book>(rt: &HostRuntime, book: &B, text: &[u8]) -> Result<(), Fault> {
+pub fn write_verified<T: Threads + Sync, B: Book>(
+    rt: &HostRuntime,
+    threads: &T,
+    book: &B,
+    text: &[u8],
+) -> Result<(), Fault> {
     let seal = seal_in(rt.alloc(), text)?;
-    let verdict = verify(rt.alloc(), book, &seal).map_err(Stop::Memory)?;
+    let verdict = verify(threads, rt.alloc(), book, &seal).map_err(Stop::Memory)?;
     refusal_of(verdict)?;
     write_accepted(rt, &seal)
 }
@@ -50,9 +61,14 @@ fn write_accepted(rt: &HostRuntime, seal: &Checkpoint) -> Result<(), Fault> {
 ///
 /// # Errors
 /// `Seal` if there is no such act.
-pub fn write_proof<B: Book>(rt: &HostRuntime, book: &B, number: u32) -> Result<(), Fault> {
+pub fn write_proof<T: Threads + Sync, B: Book>(
+    rt: &HostRuntime,
+    threads: &T,
+    book: &B,
+    number: u32,
+) -> Result<(), Fault> {
     let mut sink = StdSink::new(rt.stdout());
-    if prove(rt.alloc(), book, number, &mut sink).map_err(Stop::from)? {
+    if prove(threads, rt.alloc(), book, number, &mut sink).map_err(Stop::from)? {
         Ok(())
     } else {
         Err(Fault::Seal(SealFault::NoAct))
@@ -63,10 +79,15 @@ pub fn write_proof<B: Book>(rt: &HostRuntime, book: &B, number: u32) -> Result<(
 ///
 /// # Errors
 /// `Seal` if it does not, or if `text` begins with no seal.
-pub fn write_link<B: Book>(rt: &HostRuntime, book: &B, text: &[u8]) -> Result<(), Fault> {
+pub fn write_link<T: Threads + Sync, B: Book>(
+    rt: &HostRuntime,
+    threads: &T,
+    book: &B,
+    text: &[u8],
+) -> Result<(), Fault> {
     let seal = seal_in(rt.alloc(), text)?;
     let mut sink = StdSink::new(rt.stdout());
-    let verdict = link(rt.alloc(), book, &seal, &mut sink).map_err(Stop::from)?;
+    let verdict = link(threads, rt.alloc(), book, &seal, &mut sink).map_err(Stop::from)?;
     refusal_of(verdict)
 }
 

@@ -11,6 +11,7 @@ mod inclusion;
 mod laws;
 mod peak;
 mod text;
+mod threads;
 mod tree;
 
 pub use act::SealedAct;
@@ -20,4 +21,5 @@ pub use hash::NodeHash;
 pub use hashing::{empty_root, leaf_hash, node_hash, root_of};
 pub use inclusion::{check_inclusion, prove_inclusion};
 pub use laws::{tree_hash_equations, tree_hash_is_binding};
+pub use threads::root_by_threads;
 pub use tree::CompactTree;

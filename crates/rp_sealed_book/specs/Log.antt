@@ -10,6 +10,11 @@ use Rattle.rp_seal_text.specs.Checkpoint.{Fields}
 abbrev pub entry_at : ℕ → List ℕ → Told → ActEntry
 entry_at number lines act = record { number = number; first = act.first; last = act.last; added = act.added; who = act.who; deed = act.deed; lines = lines }
 
+-- the byte at which the lines after the given acts begin, if the lines of the first act begin at byte `start`
+abbrev pub start_after : ℕ → List Told → ℕ
+start_after start [] = start
+start_after start (act ∷ acts) = start_after act.end acts
+
 -- the entries of the acts of a script; the first act has the given number, and its lines begin at byte `start`
 abbrev pub entries_from : List ℕ → ℕ → ℕ → List Told → List ActEntry
 entries_from script number start [] = []

@@ -10,31 +10,42 @@ use crate::log::leaf_hashes;
 use rp_book::Book;
 use rp_io::Sink;
 use rp_scripts::{OutputFault, put_lines};
-use rp_seal::{NodeHash, root_of};
+use rp_seal::{NodeHash, root_by_threads};
 use rp_seal_text::{Checkpoint, checkpoint_text};
 use std::alloc::{AllocError, Global};
+use std::thread::Threads;
 
-/// Returns the root hash of the acts of `book`, as [`seal`] puts it.
+/// Returns the root hash of the acts of `book`, as [`seal`] puts it. It is computed by `threads`.
 ///
 /// # Errors
 ///
 /// `AllocError` if there is not enough memory.
-pub fn root<B: Book>(alloc: Global, book: &B) -> Result<NodeHash, AllocError>
+pub fn root<T: Threads + Sync, B: Book>(
+    threads: &T,
+    alloc: Global,
+    book: &B,
+) -> Result<NodeHash, AllocError>
     ensures { IfOk result (λ root. IfSome (B.script book.now) (λ script. IfSome (B.acts book.now) (λ acts.
         bytes_of root ≡ log_root (log_of script acts)))) }
 {
-    let leaves = leaf_hashes(alloc, book.text(), book.acts())?;
-    Ok(root_of(&leaves))
+    let leaves = leaf_hashes(threads, alloc, book.text(), book.acts())?;
+    Ok(root_by_threads(threads, &leaves))
 }
 
 /// Returns the text of the checkpoint of `book` under `origin`; `None` if `origin` is empty or has an ASCII control character.
-fn text_of<B: Book>(alloc: Global, book: &B, origin: &str) -> Result<Option<String>, AllocError>
+fn text_of<T: Threads + Sync, B: Book>(
+    threads: &T,
+    alloc: Global,
+    book: &B,
+    origin: &str,
+) -> Result<Option<String>, AllocError>
     ensures { IfOk result (λ found. MatchOption found (false ≡ is_origin origin.now) (λ text. (true ≡ is_origin origin.now)
         × IfSome (B.script book.now) (λ script. IfSome (B.acts book.now) (λ acts. string_bytes text ≡ lines_of (checkpoint_of origin.now (log_of script acts)))))) }
 {
-    let leaves = leaf_hashes(alloc, book.text(), book.acts())?;
+    let leaves = leaf_hashes(threads, alloc, book.text(), book.acts())?;
     let origin = String::from_str(alloc, origin)?;
-    let Some(checkpoint) = Checkpoint::new(origin, leaves.len() as u64, root_of(&leaves)) else {
+    let root = root_by_threads(threads, &leaves);
+    let Some(checkpoint) = Checkpoint::new(origin, leaves.len() as u64, root) else {
         return Ok(None);
     };
     let text = checkpoint_text(alloc, &checkpoint)?;
@@ -42,13 +53,15 @@ fn text_of<B: Book>(alloc: Global, book: &B, origin: &str) -> Result<Option<Stri
 }
 
 /// Puts into `sink` the checkpoint of `book` under `origin`: the origin, how many acts the book has, and the root hash of its acts.
-/// Returns whether `origin` may be one: it is not empty and has no ASCII control character. Otherwise nothing is put.
+/// Returns whether `origin` may be one: it is not empty and has no ASCII control character. Otherwise nothing is put. The root hash
+/// is computed by `threads`.
 ///
 /// # Errors
 ///
 /// - `Put` if a put fails.
 /// - `Memory` if there is not enough memory.
-pub fn seal<B: Book, K: Sink>(
+pub fn seal<T: Threads + Sync, B: Book, K: Sink>(
+    threads: &T,
     alloc: Global,
     book: &B,
     origin: &str,
@@ -59,7 +72,7 @@ pub fn seal<B: Book, K: Sink>(
     ensures text { IfOk result (λ written. IfSome (B.script book.now) (λ script. IfSome (B.acts book.now) (λ acts.
         PutsSeal origin.now (log_of script acts) written (K.said sink.old) (K.said sink.new)))) }
 {
-    let Some(text) = text_of(alloc, book, origin)? else {
+    let Some(text) = text_of(threads, alloc, book, origin)? else {
         return Ok(false);
     };
     put_lines(sink, text.as_bytes())?;

@@ -10,9 +10,10 @@ ghost use Rattle.rp_sealed_book.specs.declared.verdict.SealVerdict.TheVariants.{
 use crate::log::leaf_hashes;
 use crate::verdict::SealVerdict;
 use rp_book::Book;
-use rp_seal::{NodeHash, root_of};
+use rp_seal::{NodeHash, root_by_threads};
 use rp_seal_text::Checkpoint;
 use std::alloc::{AllocError, Global};
+use std::thread::Threads;
 
 /// Returns whether two hashes are equal.
 fn is_equal(one: &NodeHash, other: &NodeHash) -> bool
@@ -22,13 +23,17 @@ fn is_equal(one: &NodeHash, other: &NodeHash) -> bool
 }
 
 /// Compares the leaf hashes of a log with `seal`.
-pub(crate) fn compare(leaves: &[NodeHash], seal: &Checkpoint) -> SealVerdict
+pub(crate) fn compare<T: Threads + Sync>(
+    threads: &T,
+    leaves: &[NodeHash],
+    seal: &Checkpoint,
+) -> SealVerdict
     ensures { (log : List ActEntry) → hashes_of leaves.now ≡ leaves_of log → IsVerdict (fields_of seal.now) log result }
 {
     if seal.size > leaves.len() as u64 {
         return SealVerdict::Shorter;
     }
-    let root = root_of(&leaves[..seal.size as usize]);
+    let root = root_by_threads(threads, &leaves[..seal.size as usize]);
     if is_equal(&root, &seal.root) {
         SealVerdict::Begins
     } else {
@@ -40,12 +45,14 @@ pub(crate) fn compare(leaves: &[NodeHash], seal: &Checkpoint) -> SealVerdict
 /// hash, `Differs` if they have another one, and `Shorter` if there are fewer acts.
 ///
 /// After `Begins` the acts that were sealed, whatever they were, are the first acts of the book: their lines, when they were
-/// added, by whom and under which deed. The one way out is a collision of SHA-256.
+/// added, by whom and under which deed. The one way out is a collision of SHA-256. The hashes of the book are computed by
+/// `threads`.
 ///
 /// # Errors
 ///
 /// `AllocError` if there is not enough memory.
-pub fn verify<B: Book>(
+pub fn verify<T: Threads + Sync, B: Book>(
+    threads: &T,
     alloc: Global,
     book: &B,
     seal: &Checkpoint,
@@ -57,6 +64,6 @@ pub fn verify<B: Book>(
     ensures sound { IfOk result (λ verdict. verdict ≡ Begins → IfSome (B.script book.now) (λ script. IfSome (B.acts book.now) (λ acts.
         Binds (fields_of seal.now) (log_of script acts)))) }
 {
-    let leaves = leaf_hashes(alloc, book.text(), book.acts())?;
-    Ok(compare(&leaves, seal))
+    let leaves = leaf_hashes(threads, alloc, book.text(), book.acts())?;
+    Ok(compare(threads, &leaves, seal))
 }

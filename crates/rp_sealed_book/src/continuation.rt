@@ -17,6 +17,7 @@ use rp_scripts::{OutputFault, put_lines};
 use rp_seal::{NodeHash, prove_consistency};
 use rp_seal_text::{Checkpoint, Link, link_text};
 use std::alloc::{AllocError, Global};
+use std::thread::Threads;
 
 /// Returns the link from the first `size` acts of a log to all, by the leaf hashes of the log.
 fn link_of(alloc: Global, leaves: &[NodeHash], size: u64) -> Result<Link, AllocError>
@@ -32,13 +33,14 @@ fn link_of(alloc: Global, leaves: &[NodeHash], size: u64) -> Result<Link, AllocE
 }
 
 /// Puts into `sink` the proof that `book` continues the acts of `seal`, if it does, and compares the two as [`crate::verify`] does.
-/// Nothing is put unless the verdict is `Begins`.
+/// Nothing is put unless the verdict is `Begins`. The hashes of the book are computed by `threads`.
 ///
 /// # Errors
 ///
 /// - `Put` if a put fails.
 /// - `Memory` if there is not enough memory.
-pub fn link<B: Book, K: Sink>(
+pub fn link<T: Threads + Sync, B: Book, K: Sink>(
+    threads: &T,
     alloc: Global,
     book: &B,
     seal: &Checkpoint,
@@ -50,8 +52,8 @@ pub fn link<B: Book, K: Sink>(
     ensures link { IfOk result (λ verdict. IfSome (B.script book.now) (λ script. IfSome (B.acts book.now) (λ acts.
         PutsLink (log_of script acts) (fields_of seal.now) verdict (K.said sink.old) (K.said sink.new)))) }
 {
-    let leaves = leaf_hashes(alloc, book.text(), book.acts())?;
-    let verdict = compare(&leaves, seal);
+    let leaves = leaf_hashes(threads, alloc, book.text(), book.acts())?;
+    let verdict = compare(threads, &leaves, seal);
     if verdict == SealVerdict::Begins {
         let link = link_of(alloc, &leaves, seal.size)?;
         let text = link_text(alloc, &link)?;

@@ -13,6 +13,7 @@ use rp_scripts::{OutputFault, put_lines};
 use rp_seal::{SealedAct, prove_inclusion};
 use rp_seal_text::{ActProof, act_proof_text};
 use std::alloc::{AllocError, Global};
+use std::thread::Threads;
 
 /// Returns the entry of the act `number` of `acts`, the acts of `script`; `None` if there is no such act.
 fn entry_with<'a>(script: &'a [u8], acts: &'a [Act], number: u32) -> Option<SealedAct<'a>>
@@ -24,7 +25,8 @@ fn entry_with<'a>(script: &'a [u8], acts: &'a [Act], number: u32) -> Option<Seal
 }
 
 /// Returns the act `number` of `acts`, the acts of `script`, with the proof that they have it; `None` if there is no such act.
-fn proof_of<'a>(
+fn proof_of<'a, T: Threads + Sync>(
+    threads: &T,
     alloc: Global,
     script: &'a [u8],
     acts: &'a [Act],
@@ -36,20 +38,21 @@ fn proof_of<'a>(
     let Some(act) = entry_with(script, acts, number) else {
         return Ok(None);
     };
-    let leaves = leaf_hashes(alloc, script, acts)?;
+    let leaves = leaf_hashes(threads, alloc, script, acts)?;
     let proof = prove_inclusion(alloc, &leaves, number as usize - 1)?;
     let size = leaves.len() as u64;
     Ok(Some(ActProof { act, size, proof }))
 }
 
 /// Puts into `sink` the act `number` of `book`, with the proof that the book has it. Returns whether there is such an act;
-/// otherwise nothing is put.
+/// otherwise nothing is put. The hashes of the book are computed by `threads`.
 ///
 /// # Errors
 ///
 /// - `Put` if a put fails.
 /// - `Memory` if there is not enough memory.
-pub fn prove<B: Book, K: Sink>(
+pub fn prove<T: Threads + Sync, B: Book, K: Sink>(
+    threads: &T,
     alloc: Global,
     book: &B,
     number: u32,
@@ -59,7 +62,7 @@ pub fn prove<B: Book, K: Sink>(
     ensures proof { IfOk result (λ found. IfSome (B.script book.now) (λ script. IfSome (B.acts book.now) (λ acts.
         PutsProof (log_of script acts) number found (K.said sink.old) (K.said sink.new)))) }
 {
-    let Some(proof) = proof_of(alloc, book.text(), book.acts(), number)? else {
+    let Some(proof) = proof_of(threads, alloc, book.text(), book.acts(), number)? else {
         return Ok(false);
     };
     let text = act_proof_text(alloc, &proof)?;

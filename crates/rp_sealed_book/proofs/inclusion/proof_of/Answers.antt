@@ -11,7 +11,7 @@ use Rattle.rp_sealed_book.proofs.ProofLemmas.{included, place-of}
 use Rattle.rp_sealed_book.proofs.inclusion.proof_of.Goals as goal
 
 pub returns : goal.returns
-returns c =
+returns g c =
     let log = log_of c.args.script.now (map act_of c.args.acts.now) in
     let act : entry_numbered log c.args.number ≡ Some (entry_of c.in-Some.act) = sym c.entry_with.ensures ∙ ap (option_map entry_of) c.in-Some.is in
     let place = place-of log c.args.number (entry_of c.in-Some.act) act in
