@@ -40,8 +40,8 @@ fn first_of(version: Version) -> u32
     }
 }
 
-/// Returns the numbers of the first and the last of `lines` after `script`, as the report of the two together echoes them. The
-/// last line of `script` has the number `before`. The line that marks version 2 has the number 0.
+/// Returns the numbers of the first and the last of `lines` after `script`, as the report of the two together echoes
+/// them. The last line of `script` has the number `before`. The line that marks version 2 has the number 0.
 pub fn line_numbers(script: &[u8], before: u32, lines: &[u8]) -> (u32, u32)
     requires end { IsEnded script.now }
     requires short { length script.now + length lines.now ≤ most_script_bytes }

@@ -6,7 +6,8 @@ use crate::layers::layer_of;
 use crate::seal_fault::SealFault;
 use rp_command::Version;
 
-/// How lines are added: in which layer if one is named, by whom and under which deed, and how their answers are written.
+/// How lines are added: in which layer if one is named, by whom and under which deed, and how their answers are
+/// written.
 #[derive(Clone, Copy)]
 pub struct Options<'a> {
     pub layer: Option<&'a str>,

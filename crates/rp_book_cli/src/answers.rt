@@ -4,7 +4,8 @@ ghost use Rattle.std.specs.Prelude.{None};
 use rp_io::{Failed, Sink};
 use std::marker::Model;
 
-/// Passes on the lines that it is given. If it is brief, it leaves the proof lines out: the lines that begin with a space.
+/// Passes on the lines that it is given. If it is brief, it leaves the proof lines out: the lines that begin with a
+/// space.
 #[derive(Drop)]
 pub struct AnswerSink<K: Sink> {
     sink: K,

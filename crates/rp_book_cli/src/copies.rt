@@ -1,5 +1,5 @@
-//! A copy of a book in a new file. Until it has all acts the file has another name, so that no copy that was cut off is taken
-//! for the book.
+//! A copy of a book in a new file. Until it has all acts the file has another name, so that no copy that was cut off is
+//! taken for the book.
 
 use crate::copy::copy_acts;
 use crate::file::{FileFault, close, connect, make};

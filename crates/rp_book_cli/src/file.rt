@@ -87,9 +87,9 @@ fn fault_at(rt: &HostRuntime, path: &str, error: Error) -> FileFault {
     }
 }
 
-/// Opens the database in the file at `path` and the log next to it. Of a write that the power cut off nothing is supposed, and
-/// pages of a new file end in sums. No other process may open it until it is let go. This alone names what SQLite keeps in a
-/// file.
+/// Opens the database in the file at `path` and the log next to it. Of a write that the power cut off nothing is
+/// supposed, and pages of a new file end in sums. No other process may open it until it is let go. This alone names
+/// what SQLite keeps in a file.
 pub fn connect(
     rt: &HostRuntime,
     path: &str,
@@ -103,8 +103,8 @@ pub fn connect(
     }
 }
 
-/// Closes a connection. What its log has comes into the file; where the disk does not let it, it stays in the log, and the
-/// next one who opens the file finds it there.
+/// Closes a connection. What its log has comes into the file; where the disk does not let it, it stays in the log, and
+/// the next one who opens the file finds it there.
 pub fn close<D: Disk + Drop>(conn: Connection<FileStore<D>>) -> Result<(), FileFault> {
     conn.close()?;
     Ok(())

@@ -30,7 +30,8 @@ fn read_lines(rt: &HostRuntime) -> Result<Vec<u8>, Stop> {
     }
 }
 
-/// Reads what `act` needs, to its end: standard input, or the file of a seal. Returns no bytes for an act that needs none.
+/// Reads what `act` needs, to its end: standard input, or the file of a seal. Returns no bytes for an act that needs
+/// none.
 ///
 /// # Errors
 /// `Stopped` if standard input is not read to its end; `Seal` if the file of the seal is not.

@@ -82,7 +82,8 @@ fn tell_inherited<B: Book>(rt: &impl Eprint, book: &B, inherited: Inherited) -> 
     )
 }
 
-/// Says on standard error what lines that were added to `book` do with layers, where the lines themselves do not say it.
+/// Says on standard error what lines that were added to `book` do with layers, where the lines themselves do not say
+/// it.
 pub fn tell_addition<B: Book>(rt: &impl Eprint, book: &B, addition: &Addition) -> io::Result<()> {
     if let Some(inherited) = addition.inherited {
         tell_inherited(rt, book, inherited)?;
@@ -122,8 +123,8 @@ fn has_layer(script: &[u8], layer: &str) -> bool {
     false
 }
 
-/// Says on standard error in which layer of `book` a question was asked, if it names none, and that the book does not have the
-/// layer that it names.
+/// Says on standard error in which layer of `book` a question was asked, if it names none, and that the book does not
+/// have the layer that it names.
 pub fn tell_asked<B: Book>(rt: &impl Eprint, book: &B, layer: Option<&str>) -> io::Result<()> {
     match layer {
         None => tell_last(rt, book),

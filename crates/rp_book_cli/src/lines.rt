@@ -12,8 +12,8 @@ use rp_io::{QuietSource, StdSink};
 use std::io;
 use std::thread::Threads;
 
-/// Says on standard error that a line is refused, and which version the book has if `lines` look like the other one. Leaves the
-/// latter out if there is not enough memory to read `lines` once more.
+/// Says on standard error that a line is refused, and which version the book has if `lines` look like the other one.
+/// Leaves the latter out if there is not enough memory to read `lines` once more.
 fn tell_refused(rt: &HostRuntime, version: Version, lines: &[u8]) -> io::Result<()> {
     if !are_of_other(rt.alloc(), version, lines).unwrap_or(false) {
         return eprintln!(rt;

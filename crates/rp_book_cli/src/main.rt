@@ -1,9 +1,9 @@
 #![tactic(auto)]
-//! The program that keeps a book in an SQLite file: the words after its name are the file and what is to be done. Two words need
-//! no book: they check proofs by seals.
+//! The program that keeps a book in an SQLite file: the words after its name are the file and what is to be done. Two
+//! words need no book: they check proofs by seals.
 //!
-//! Lines come from standard input, answers go to standard output. Where nothing was done one line on standard error says
-//! why.
+//! Lines come from standard input, answers go to standard output. Where nothing was done one line on standard error
+//! says why.
 
 mod act;
 mod answers;

@@ -46,8 +46,8 @@ fn write_line<B: Book>(rt: &HostRuntime, book: &B, date: &str) -> Result<(), Sto
     println!(rt; "{line}").map_err(|_| Stop::Put)
 }
 
-/// Writes the history of `id`, or the report of `book` if it is `None`, in pieces of up to 65,536 bytes. Returns whether a line is
-/// refused.
+/// Writes the history of `id`, or the report of `book` if it is `None`, in pieces of up to 65,536 bytes. Returns
+/// whether a line is refused.
 fn write_report<T: Threads + Sync, B: Book>(
     rt: &HostRuntime,
     threads: &T,
@@ -65,7 +65,8 @@ fn write_report<T: Threads + Sync, B: Book>(
     Ok(refused)
 }
 
-/// Writes what is asked about the seals of `book`; nothing for another query. `input` has the seal that the query names.
+/// Writes what is asked about the seals of `book`; nothing for another query. `input` has the seal that the query
+/// names.
 fn write_seals<T: Threads + Sync, B: Book>(
     rt: &HostRuntime,
     threads: &T,
@@ -83,8 +84,8 @@ fn write_seals<T: Threads + Sync, B: Book>(
     }
 }
 
-/// Writes what is read from `book`; nothing for `ask`, for which the book is let go first. Returns whether a line of it is a
-/// refusal.
+/// Writes what is read from `book`; nothing for `ask`, for which the book is let go first. Returns whether a line of it
+/// is a refusal.
 pub fn write_query<T: Threads + Sync, B: Book>(
     rt: &HostRuntime,
     threads: &T,

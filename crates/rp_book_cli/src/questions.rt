@@ -148,8 +148,8 @@ fn script_of<T: Threads + Sync, S: Alter + Drop>(
     Ok(script)
 }
 
-/// Writes the answers to the questions of standard input after the lines of the book in the database of `conn`. Lets `conn` go
-/// before the first question is read, so that others may open the book. Returns whether a line is refused.
+/// Writes the answers to the questions of standard input after the lines of the book in the database of `conn`. Lets
+/// `conn` go before the first question is read, so that others may open the book. Returns whether a line is refused.
 pub fn write_answers<T: Threads + Sync, S: Alter + Drop>(
     rt: &HostRuntime,
     threads: &T,

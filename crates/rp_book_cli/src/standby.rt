@@ -8,7 +8,8 @@ use rp_book_service::replay::{Replayed, replay};
 use rp_seal_text::read_acts;
 use std::thread::Threads;
 
-/// Adds the acts of `text`, which another book wrote, to `book`. Returns whether a line is refused; nothing is added then.
+/// Adds the acts of `text`, which another book wrote, to `book`. Returns whether a line is refused; nothing is added
+/// then.
 ///
 /// # Errors
 /// `Seal` if `text` is no stream of acts, or if they do not continue `book`; `Stopped` if the book fails or there is not enough

@@ -48,8 +48,8 @@ fn is_of_other(alloc: Global, version: Version, line: &[u8]) -> Result<bool, All
     Ok(is_refused(alloc, version, line)? && is_command(alloc, other(version), line)?)
 }
 
-/// Returns whether `lines` begin with the mark of version 2, which is a refused line in `version`, or have a line that is
-/// refused as `syntax` in `version` and is a command in the other version.
+/// Returns whether `lines` begin with the mark of version 2, which is a refused line in `version`, or have a line that
+/// is refused as `syntax` in `version` and is a command in the other version.
 pub fn are_of_other(alloc: Global, version: Version, lines: &[u8]) -> Result<bool, AllocError> {
     if let (Version::One, (Version::Two, _)) = (version, split_mark(lines)) {
         return Ok(true);

@@ -86,8 +86,8 @@ fn work_on<T: Threads + Sync, S: Alter + Drop>(
     }
 }
 
-/// Does what is asked of a database in files, and closes it where something was written. What the disk does not let into the
-/// file then stays in the log.
+/// Does what is asked of a database in files, and closes it where something was written. What the disk does not let
+/// into the file then stays in the log.
 fn work_and_close<T: Threads + Sync, D: Disk + Drop>(
     rt: &HostRuntime,
     threads: &T,
@@ -101,8 +101,9 @@ fn work_and_close<T: Threads + Sync, D: Disk + Drop>(
     Ok(refused)
 }
 
-/// Does what `words` ask for; lots are judged by `threads`. Returns whether a line is refused. Unless the file is to be made a
-/// book, it is there. Standard input is read to its end before the book is opened, so that a slow input keeps nobody out.
+/// Does what `words` ask for; lots are judged by `threads`. Returns whether a line is refused. Unless the file is to be
+/// made a book, it is there. Standard input is read to its end before the book is opened, so that a slow input keeps
+/// nobody out.
 pub fn work<T: Threads + Sync>(
     rt: &HostRuntime,
     threads: &T,

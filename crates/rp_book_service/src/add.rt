@@ -30,8 +30,8 @@ pub enum Outcome {
     Added(Addition),
 }
 
-/// Adds `lines` to `book` under `entry`, unless there are none. `addition` is what the lines do with layers, and is returned if
-/// they are added.
+/// Adds `lines` to `book` under `entry`, unless there are none. `addition` is what the lines do with layers, and is
+/// returned if they are added.
 fn keep<B: Book>(
     alloc: Global,
     book: &mut B,
@@ -63,13 +63,13 @@ fn keep<B: Book>(
     Ok(Outcome::Added(addition))
 }
 
-/// Adds the lines of `source` to `book`, under `entry`, if none of them is refused, and puts their answers into `sink`. If `layer`
-/// is named, a line that chooses it is added before them. Nothing is added if a line is refused, if there are no lines, and if
-/// the call stops.
+/// Adds the lines of `source` to `book`, under `entry`, if none of them is refused, and puts their answers into `sink`.
+/// If `layer` is named, a line that chooses it is added before them. Nothing is added if a line is refused, if there
+/// are no lines, and if the call stops.
 ///
-/// Once lines were added, the next one who opens the book finds the new script and no other. If a line is refused, if there are
-/// no lines, or if the call stops before it comes to the book, no script is found that was not found before. If the book fails,
-/// all the lines are found, or none.
+/// Once lines were added, the next one who opens the book finds the new script and no other. If a line is refused, if
+/// there are no lines, or if the call stops before it comes to the book, no script is found that was not found before.
+/// If the book fails, all the lines are found, or none.
 pub fn add<R: Threads + Sync, B: Book, S: Source, K: Sink>(
     rt: &R,
     alloc: Global,

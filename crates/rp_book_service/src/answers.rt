@@ -20,8 +20,8 @@ use rp_scripts::{OutputFault, next_line, put_answer, split_mark};
 use std::alloc::Global;
 use std::thread::Threads;
 
-/// Has `machine` answer `line`, and puts the report lines of the answer, full or brief, into `sink`, by way of `text`, a buffer
-/// for their bytes. Returns whether one of them is a refusal.
+/// Has `machine` answer `line`, and puts the report lines of the answer, full or brief, into `sink`, by way of `text`,
+/// a buffer for their bytes. Returns whether one of them is a refusal.
 pub fn answer_line<R: Threads + Sync, K: Sink>(
     rt: &R,
     alloc: Global,
@@ -45,8 +45,8 @@ pub fn answer_line<R: Threads + Sync, K: Sink>(
     put_answer(&answer, brief, text, sink)
 }
 
-/// Has `machine` answer `lines`, the first of which has the number `number`, and puts their report lines, full or brief, into
-/// `sink`. Returns the number of the line after them, and whether a report line is a refusal.
+/// Has `machine` answer `lines`, the first of which has the number `number`, and puts their report lines, full or
+/// brief, into `sink`. Returns the number of the line after them, and whether a report line is a refusal.
 pub fn answer_lines<R: Threads + Sync, K: Sink>(
     rt: &R,
     alloc: Global,
@@ -77,8 +77,8 @@ pub fn answer_lines<R: Threads + Sync, K: Sink>(
     Ok((next, refused))
 }
 
-/// Has `machine`, which has answered no line, answer `body`, and puts nothing. Returns the number of the line after `body`, and
-/// whether one of its report lines is a refusal.
+/// Has `machine`, which has answered no line, answer `body`, and puts nothing. Returns the number of the line after
+/// `body`, and whether one of its report lines is a refusal.
 ///
 /// # Errors
 ///
@@ -100,8 +100,8 @@ pub fn run_body<R: Threads + Sync>(
     answer_lines(rt, alloc, machine, 1, body, true, &mut nowhere)
 }
 
-/// Has `machine`, which has answered no line, answer `body` and then `lines`. Puts the report lines of `lines` alone into `sink`.
-/// Returns whether a report line of either is a refusal.
+/// Has `machine`, which has answered no line, answer `body` and then `lines`. Puts the report lines of `lines` alone
+/// into `sink`. Returns whether a report line of either is a refusal.
 ///
 /// # Errors
 ///
@@ -127,8 +127,8 @@ fn answer_both<R: Threads + Sync, K: Sink>(
     Ok(before | refused)
 }
 
-/// Puts into `sink` what the report of `script` with `lines` after it has after the report of `script`. Returns whether a line of
-/// the report of both is a refusal.
+/// Puts into `sink` what the report of `script` with `lines` after it has after the report of `script`. Returns whether
+/// a line of the report of both is a refusal.
 ///
 /// # Errors
 ///
@@ -157,7 +157,8 @@ pub fn put_behind<R: Threads + Sync, K: Sink>(
     answered
 }
 
-/// Puts the report of `lines`, which come after an empty script, into `sink`. Returns whether a line of it is a refusal.
+/// Puts the report of `lines`, which come after an empty script, into `sink`. Returns whether a line of it is a
+/// refusal.
 ///
 /// # Errors
 ///

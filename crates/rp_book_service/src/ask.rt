@@ -81,8 +81,8 @@ fn answer_first<R: Threads + Sync, K: Sink>(
     answer(rt, alloc, &[], lines, sink)
 }
 
-/// Answers `lines` and then the lines after them: `rest` has the first bytes of the next line, and `source` those after `rest`.
-/// Returns whether a line is refused.
+/// Answers `lines` and then the lines after them: `rest` has the first bytes of the next line, and `source` those after
+/// `rest`. Returns whether a line is refused.
 ///
 /// # Errors
 ///
@@ -171,11 +171,12 @@ fn ask_after<R: Threads + Sync, S: Source, K: Sink>(
     answer_rest(rt, alloc, script, Vec::new(alloc), buffer, source, sink)
 }
 
-/// Answers the questions of `source`, as if their lines came after those of `script`, and puts the answers into `sink`. Returns
-/// whether a line of `script` or of `source` is refused.
+/// Answers the questions of `source`, as if their lines came after those of `script`, and puts the answers into `sink`.
+/// Returns whether a line of `script` or of `source` is refused.
 ///
-/// Runs `script` once, and then reads at most 65,536 bytes at a time. The answers to all lines that are complete are put before
-/// the next bytes are read, so that no answer waits for a later question. The last line may lack its line feed.
+/// Runs `script` once, and then reads at most 65,536 bytes at a time. The answers to all lines that are complete are
+/// put before the next bytes are read, so that no answer waits for a later question. The last line may lack its line
+/// feed.
 ///
 /// An empty script has no version: the first line of `source` decides it.
 ///

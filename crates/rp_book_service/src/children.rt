@@ -61,7 +61,8 @@ fn write_more(ids: &[Name], text: &mut Vec<u8>) -> Result<(), AllocError>
     Ok(())
 }
 
-/// Writes what the lot `id` became in the line with the number `line`: the lots `ids`. Writes nothing if there are none.
+/// Writes what the lot `id` became in the line with the number `line`: the lots `ids`. Writes nothing if there are
+/// none.
 fn write_became(id: &[u8], line: u32, ids: &[Name], text: &mut Vec<u8>) -> Result<(), AllocError>
     ensures { OnOk result (text.new.items ≡ text.old.items ++ became id.now line ids.now) }
 {
@@ -145,8 +146,8 @@ fn body_lines(alloc: Global, body: &[u8]) -> Result<Vec<&[u8]>, AllocError>
     Ok(lines)
 }
 
-/// Returns what the lots became of which `answer`, the answer to `history` after `script`, says that they ended: the new lots of
-/// the lines in which they ended.
+/// Returns what the lots became of which `answer`, the answer to `history` after `script`, says that they ended: the
+/// new lots of the lines in which they ended.
 pub(crate) fn children_text(
     alloc: Global,
     script: &[u8],

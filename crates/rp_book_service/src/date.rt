@@ -44,8 +44,8 @@ fn greater(a: u32, b: u32) -> u32
     if a < b { b } else { a }
 }
 
-/// Returns the number of the last line that was added on `date`, as 2026-11-30, or before; 0 if there is none. The times of `acts`
-/// and `date` are UTC.
+/// Returns the number of the last line that was added on `date`, as 2026-11-30, or before; 0 if there is none. The
+/// times of `acts` and `date` are UTC.
 pub fn last_line_by(acts: &[Act], date: &str) -> u32
     ensures { result ≡ last_by date.now (map act_of acts.now) }
 {
@@ -75,10 +75,10 @@ fn question(alloc: Global, line: u32, words: &[String]) -> Result<Vec<u8>, Alloc
     Ok(text)
 }
 
-/// Puts into `sink` the answer to `asof` for the point that `words` spell, as of the last line that was added on `date`, as
-/// 2026-11-30, or before: whose the place was then. If `layer` is named, the place is looked for in that layer: the question
-/// comes after a line that chooses `layer`, whose answer is put too. Otherwise the place is looked for in the layer that the
-/// book ends in ([`crate::last_choice`]). Returns whether a line is refused.
+/// Puts into `sink` the answer to `asof` for the point that `words` spell, as of the last line that was added on
+/// `date`, as 2026-11-30, or before: whose the place was then. If `layer` is named, the place is looked for in that
+/// layer: the question comes after a line that chooses `layer`, whose answer is put too. Otherwise the place is looked
+/// for in the layer that the book ends in ([`crate::last_choice`]). Returns whether a line is refused.
 pub fn as_of<R: Threads + Sync, B: Book, K: Sink>(
     rt: &R,
     alloc: Global,

@@ -76,8 +76,8 @@ fn write_event(
     Ok(())
 }
 
-/// Writes the act of the line of `lot`, a lot with the number of a line in which it was born or ended, as `word` says. Writes
-/// nothing if there is no lot, or if no act has the line.
+/// Writes the act of the line of `lot`, a lot with the number of a line in which it was born or ended, as `word` says.
+/// Writes nothing if there is no lot, or if no act has the line.
 fn write_act(
     lot: Option<(&[u8], u32)>,
     word: &[u8],
@@ -104,8 +104,8 @@ fn write_acts(told: &[u8], acts: &[Act], text: &mut Vec<u8>) -> Result<(), Alloc
     write_act(ended_lot(told), b" ended ", acts, text)
 }
 
-/// Returns the acts in which the lots of `answer` were born and ended. `answer` is the answer to `history`, and `acts` are in the
-/// order of their lines.
+/// Returns the acts in which the lots of `answer` were born and ended. `answer` is the answer to `history`, and `acts`
+/// are in the order of their lines.
 pub(crate) fn events_text(alloc: Global, answer: &[u8], acts: &[Act]) -> Result<Vec<u8>, AllocError>
     ensures { AreInOrder 0 (map act_of acts.now) → IfOk result (λ text. text.items ≡ events_text (map act_of acts.now) answer.now) }
 {

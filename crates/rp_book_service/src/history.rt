@@ -81,9 +81,9 @@ fn answer_text<R: Threads + Sync>(
     Ok((sink.text, refused))
 }
 
-/// Puts into `sink` the answer to `history` for the lot `id` after the lines of `book`. After the answer come, for each lot in it,
-/// the acts in which the lot was born and ended: when that was, by whom and under which deed. Then come the lots that each
-/// ended lot became. Returns whether the question is refused.
+/// Puts into `sink` the answer to `history` for the lot `id` after the lines of `book`. After the answer come, for each
+/// lot in it, the acts in which the lot was born and ended: when that was, by whom and under which deed. Then come the
+/// lots that each ended lot became. Returns whether the question is refused.
 pub fn history<R: Threads + Sync, B: Book, K: Sink>(
     rt: &R,
     alloc: Global,

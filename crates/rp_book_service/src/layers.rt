@@ -38,8 +38,8 @@ pub struct Inherited {
 pub struct Addition {
     /// The layers that the lines choose and no earlier line does, each once, in order.
     pub layers: Vec<Name>,
-    /// The first lot in a layer that an earlier act chose. `None` if the lines choose a layer first, if they register no lot,
-    /// and if no earlier line chooses a layer.
+    /// The first lot in a layer that an earlier act chose. `None` if the lines choose a layer first, if they register
+    /// no lot, and if no earlier line chooses a layer.
     pub inherited: Option<Inherited>,
 }
 
@@ -81,8 +81,8 @@ fn base_layer() -> Name
     Name::new(b"base").unwrap()
 }
 
-/// Inserts the layers that `script` and `lines` choose into `layers`, which has the first layer of a script. Returns those
-/// that `lines` choose first.
+/// Inserts the layers that `script` and `lines` choose into `layers`, which has the first layer of a script. Returns
+/// those that `lines` choose first.
 fn gather_both(
     alloc: Global,
     script: &[u8],
@@ -139,7 +139,8 @@ fn read_choices(body: &[u8]) -> (Option<Choice>, u32)
     (choice, number)
 }
 
-/// Returns the last choice of a layer in `script`. `None` if no line chooses a layer: the script ends in `base`, as it begins.
+/// Returns the last choice of a layer in `script`. `None` if no line chooses a layer: the script ends in `base`, as it
+/// begins.
 pub fn last_choice(script: &[u8]) -> Option<Choice>
     requires { length script.now ≤ most_script_bytes }
     ensures { result ≡ last_choice script.now }
@@ -166,8 +167,8 @@ fn line_registers(alloc: Global, version: Version, line: &[u8]) -> Result<bool, 
     Ok(found)
 }
 
-/// Returns the number of the first of `lines` that registers a lot, if no line before it chooses a layer. The first of `lines`
-/// has the number `first`.
+/// Returns the number of the first of `lines` that registers a lot, if no line before it chooses a layer. The first of
+/// `lines` has the number `first`.
 fn first_registration(
     alloc: Global,
     version: Version,
@@ -192,7 +193,8 @@ fn first_registration(
     Ok(None)
 }
 
-/// Returns the first lot that `lines` register in the layer that `script` ends in, with the last choice of a layer in `script`.
+/// Returns the first lot that `lines` register in the layer that `script` ends in, with the last choice of a layer in
+/// `script`.
 fn find_inherited(
     alloc: Global,
     script: &[u8],

@@ -1,8 +1,8 @@
 #![tactic(auto)]
 //! What a registrar does with a book: adds lines, asks, and reads the script and its report.
 //!
-//! Lines are added only if none of them is refused after those that the book keeps ([`add::add`]). Questions are answered as if
-//! they came after the book's lines, and are not kept:
+//! Lines are added only if none of them is refused after those that the book keeps ([`add::add`]). Questions are
+//! answered as if they came after the book's lines, and are not kept:
 //!
 //! - lines that change no lot, each as soon as it has come ([`ask::ask`]);
 //! - a question about a lot, with the acts in which the lot was born and ended and the lots that it became

@@ -64,8 +64,8 @@ fn number_after_born(text: &[u8]) -> Option<u32>
     number_after_ended(text)
 }
 
-/// Returns the lot that ended by `line`, a line of a report, and the number of the script's line in which it ended. `None` unless
-/// `line` begins as `= lot ID born N ended M`.
+/// Returns the lot that ended by `line`, a line of a report, and the number of the script's line in which it ended.
+/// `None` unless `line` begins as `= lot ID born N ended M`.
 pub(crate) fn ended_lot(line: &[u8]) -> Option<(&[u8], u32)>
     ensures { option_map (λ (lot : Bor (List ℕ) × ℕ). (lot.0.now, lot.1)) result ≡ ended_lot line.now }
 {
@@ -81,8 +81,8 @@ fn number_born(text: &[u8]) -> Option<u32>
     line_number(word)
 }
 
-/// Returns the lot of `line`, a line of a report, and the number of the script's line in which it was born. `None` unless `line`
-/// begins as `= lot ID born N`.
+/// Returns the lot of `line`, a line of a report, and the number of the script's line in which it was born. `None`
+/// unless `line` begins as `= lot ID born N`.
 pub(crate) fn born_lot(line: &[u8]) -> Option<(&[u8], u32)>
     ensures { option_map (λ (lot : Bor (List ℕ) × ℕ). (lot.0.now, lot.1)) result ≡ born_lot line.now }
 {

@@ -14,8 +14,8 @@ use rp_io::{Sink, Source};
 use std::alloc::Global;
 use std::thread::Threads;
 
-/// Answers the lines of `source` piece by piece: all lines that a piece completes, before the next piece is read into `buffer`.
-/// Returns whether a line of `script` or a line after it is refused.
+/// Answers the lines of `source` piece by piece: all lines that a piece completes, before the next piece is read into
+/// `buffer`. Returns whether a line of `script` or a line after it is refused.
 ///
 /// The bytes of `source` come after the unfinished line of `session`, and the lines of both after `script`.
 ///
@@ -64,8 +64,8 @@ fn answer_pieces<R: Threads + Sync, S: Source, K: Sink>(
     }
 }
 
-/// Answers the lines of `source` after those of `script`. The first of them begins with the bytes of `unfinished`. Returns whether
-/// a line of `script` or a line after it is refused.
+/// Answers the lines of `source` after those of `script`. The first of them begins with the bytes of `unfinished`.
+/// Returns whether a line of `script` or a line after it is refused.
 ///
 /// Runs `script` once. Answers all lines that a read into `buffer` completes before the next read.
 ///

@@ -76,8 +76,8 @@ fn is_next(script: &[u8], before: u32, count: u64, act: &SealedAct<'_>) -> bool
     act.first == first && act.last == last && u64::from(act.number) == count + 1
 }
 
-/// Joins the lines of `acts` to `script`, which has `count` acts. If an act cannot come after the script and the acts before it,
-/// the number of the first such act is returned.
+/// Joins the lines of `acts` to `script`, which has `count` acts. If an act cannot come after the script and the acts
+/// before it, the number of the first such act is returned.
 ///
 /// # Errors
 ///
@@ -152,8 +152,8 @@ fn add_all<B: Book>(alloc: Global, book: &mut B, acts: &[SealedAct<'_>]) -> Resu
     Ok(())
 }
 
-/// Takes `acts`, which come after the acts of `book` in another book, into `book`: each with its time, who and deed. All acts are
-/// looked at before the first is added. A crash in the call leaves a beginning of the acts, each whole.
+/// Takes `acts`, which come after the acts of `book` in another book, into `book`: each with its time, who and deed.
+/// All acts are looked at before the first is added. A crash in the call leaves a beginning of the acts, each whole.
 ///
 /// # Errors
 ///

@@ -30,8 +30,9 @@ pub fn cut_lines(text: &[u8]) -> (&[u8], &[u8])
     text.split_at(end)
 }
 
-/// Has `machine` answer `lines`, of a script of `version`, and puts the report lines of each before the next is read. Returns the
-/// number of the line after them, and whether one of them is refused. The first line has the number `number`.
+/// Has `machine` answer `lines`, of a script of `version`, and puts the report lines of each before the next is read.
+/// Returns the number of the line after them, and whether one of them is refused. The first line has the number
+/// `number`.
 ///
 /// # Errors
 ///
@@ -104,8 +105,8 @@ impl Drop for Session {
 }
 
 impl Session {
-    /// Runs `script` and returns the session for the lines after it, the first of which begins with the bytes of `unfinished`.
-    /// Puts nothing.
+    /// Runs `script` and returns the session for the lines after it, the first of which begins with the bytes of
+    /// `unfinished`. Puts nothing.
     ///
     /// # Errors
     ///
@@ -154,7 +155,8 @@ impl Session {
         self.refused
     }
 
-    /// Answers the bytes that were unfinished and are complete lines now, puts the answers into `sink`, and drops the bytes.
+    /// Answers the bytes that were unfinished and are complete lines now, puts the answers into `sink`, and drops the
+    /// bytes.
     ///
     /// # Errors
     ///
@@ -192,8 +194,8 @@ impl Session {
         Ok(())
     }
 
-    /// Answers all lines that are complete with `piece`, which comes after the pieces of the calls before, and puts the answers
-    /// into `sink`. Keeps the bytes after the last line feed for the next call.
+    /// Answers all lines that are complete with `piece`, which comes after the pieces of the calls before, and puts the
+    /// answers into `sink`. Keeps the bytes after the last line feed for the next call.
     ///
     /// # Errors
     ///

@@ -1,8 +1,8 @@
 //! A search tree over boxes by the cells of space in which their least corners are. Each node has one box of its cell,
-//! two sides with the others, one for each half of the cell, and a box around all, the hull. It is a digital search tree
-//! (Knuth, The Art of Computer Programming, volume 3, 6.3) over the digits of the corner and then of the id, as an octree
-//! takes them (Finkel and Bentley, Quad trees: a data structure for retrieval on composite keys, 1974). So it is at most
-//! 129 nodes high, though no contract needs to know.
+//! two sides with the others, one for each half of the cell, and a box around all, the hull. It is a digital search
+//! tree (Knuth, The Art of Computer Programming, volume 3, 6.3) over the digits of the corner and then of the id, as an
+//! octree takes them (Finkel and Bentley, Quad trees: a data structure for retrieval on composite keys, 1974). So it is
+//! at most 129 nodes high, though no contract needs to know.
 ghost use Rattle.std.specs.Prelude.{◌≡◌, ◌+◌, MatchOption, true};
 ghost use Rattle.rp_space.specs.Boxes.{integer_box};
 ghost use Rattle.rp_boxindex.specs.cells.Nodes.{AreSides, IsShown};

@@ -26,8 +26,8 @@ use std::sync::ledger::Ledger;
 
 /// Boxes under their ids. A contract sees the finite map from the ids to the boxes.
 ///
-/// The boxes are in two trees, one by x and one by cells of space. Next to them is the least corner of each box, by which
-/// the trees find an id.
+/// The boxes are in two trees, one by x and one by cells of space. Next to them is the least corner of each box, by
+/// which the trees find an id.
 #[derive(Drop)]
 pub struct Index {
     lows: Lows,
@@ -89,8 +89,8 @@ impl Index {
         Ok(())
     }
 
-    /// Puts `bounds` in the place of the box that `id` has. Returns whether it has one; otherwise the index is as it was.
-    /// Takes no memory.
+    /// Puts `bounds` in the place of the box that `id` has. Returns whether it has one; otherwise the index is as it
+    /// was. Takes no memory.
     pub fn change(&mut self, id: u32, bounds: IntBox) -> bool
         ensures there { result ≡ map.contains_key self.old id }
         ensures changed { result ≡ true → self.new ≡ map.insert self.old id bounds }
@@ -137,9 +137,9 @@ impl Index {
         true
     }
 
-    /// Returns the ids of the boxes that meet `bounds`, in rising order. Half-open boxes meet iff each begins before the
-    /// other ends, on each axis; if `closed`, also if one begins where the other ends. `watch` is told of each node that
-    /// is visited.
+    /// Returns the ids of the boxes that meet `bounds`, in rising order. Half-open boxes meet iff each begins before
+    /// the other ends, on each axis; if `closed`, also if one begins where the other ends. `watch` is told of each node
+    /// that is visited.
     ///
     /// One of `steps` is one node that is visited. Let h be the greatest number with 2^h <= (n + 1)^2 for n boxes, of
     /// which k meet `bounds` on the x axis. Then there are at most (k + 1) * (2h + 2).

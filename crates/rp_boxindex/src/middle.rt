@@ -1,6 +1,6 @@
-//! The middles of cells. A cell is a part of space, or the ids of one range at one corner. It is halved on x, on y and on
-//! z in turn, and at last by ids. So the cells follow the order of Morton (A computer oriented geodetic data base and a
-//! new technique in file sequencing, 1966).
+//! The middles of cells. A cell is a part of space, or the ids of one range at one corner. It is halved on x, on y and
+//! on z in turn, and at last by ids. So the cells follow the order of Morton (A computer oriented geodetic data base
+//! and a new technique in file sequencing, 1966).
 ghost use Rattle.std.specs.Prelude.{◌≡◌, ◌<◌};
 ghost use Rattle.rp_boxindex.specs.cells.Halves.{is_upper};
 

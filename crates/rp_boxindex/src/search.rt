@@ -2,9 +2,9 @@
 //!
 //! In the tree by x it leaves out the subtrees in which no box can meet: those that end before the box begins on the x
 //! axis, those around which the hull does not meet it, and what stands behind a box that begins after its end. For each
-//! box that it sees to meet on the x axis, a walk through the tree of cells has a turn of two steps. The search ends with
-//! the one that ends first. So the walk makes few steps where few boxes meet on the x axis, and there are few in all where
-//! many do.
+//! box that it sees to meet on the x axis, a walk through the tree of cells has a turn of two steps. The search ends
+//! with the one that ends first. So the walk makes few steps where few boxes meet on the x axis, and there are few in
+//! all where many do.
 ghost use Rattle.std.specs.Prelude.{◌≡◌, ◌+◌, ◌*◌, ◌≤◌, ◌∷◌, [], false, length, OnOk};
 ghost use Rattle.rp_space.specs.Boxes.{integer_box};
 ghost use Rattle.rp_boxindex.specs.Bound.{meets_on_x};

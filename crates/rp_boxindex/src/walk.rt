@@ -20,8 +20,8 @@ use std::sync::ledger::Ledger;
 ///
 /// Its first turns pass with no step: most searches by x end before.
 ///
-/// It is lost where more trees are pending than it has room for, which no height of a tree of cells leads to, or where its
-/// taker does not take an id. Then its taker tells nothing.
+/// It is lost where more trees are pending than it has room for, which no height of a tree of cells leads to, or where
+/// its taker does not take an id. Then its taker tells nothing.
 #[derive(Drop)]
 pub(crate) struct Walk<'a, T> {
     pending: Pending<'a>,

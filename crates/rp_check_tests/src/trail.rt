@@ -204,8 +204,8 @@ fn a_raised_square_is_one_part(rt: HostRuntime) {
     assert_eq!(rt; part.halves.items(), box_halves(&WEST).as_slice());
 }
 
-/// Follows the slices of the first box and of the one in its middle at a height, on the lines behind those of their part
-/// tests: how many there are, and the number of the next line then.
+/// Follows the slices of the first box and of the one in its middle at a height, on the lines behind those of their
+/// part tests: how many there are, and the number of the next line then.
 fn slices_of_two(
     rt: &impl Abort,
     alloc: Global,

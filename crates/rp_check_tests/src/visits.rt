@@ -72,8 +72,8 @@ fn the_check_searches_the_index_of_lots(rt: HostRuntime) {
     }
 }
 
-/// Names of layers whose bytes are one number modulo 2^18, as digits to the base 131: a table by such a number would have
-/// their lots in one place.
+/// Names of layers whose bytes are one number modulo 2^18, as digits to the base 131: a table by such a number would
+/// have their lots in one place.
 const ALIKE: [&str; 12] = [
     "aaaaxciz", "aaabvnpg", "aaaclsuh", "aaadbxzi", "aaafuleq", "aaagypsf", "aaahouxg", "aaajgbll",
     "aaakxnhp", "aaaltlty", "aaamjqyz", "aaannfcb",

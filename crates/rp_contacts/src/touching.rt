@@ -46,8 +46,8 @@ pub fn pending_contacts<T: Oracle, K: Keeper<T>>(
     Ok(contacts_left::<T, K>(alloc, keeper, place, &layer, &id, tests)?)
 }
 
-/// Begins `neighbours` of the lot at `place`, as `pending_contacts`, behind the check on its id: the live lots of `layer`
-/// with another id than `id` that have a part which may touch one of its own.
+/// Begins `neighbours` of the lot at `place`, as `pending_contacts`, behind the check on its id: the live lots of
+/// `layer` with another id than `id` that have a part which may touch one of its own.
 fn contacts_left<T: Oracle, K: Keeper<T>>(
     alloc: Global,
     keeper: &K,

@@ -95,8 +95,8 @@ pub trait Oracle: Sized {
     ) -> Result<Self::Form, Stopped>
         ensures { Refines parts_of result self.new (subtract tester (parts_of a.now) (parts_of b.now) self.old) };
 
-    /// Returns the difference of `first` and `other`, as [`Oracle::minus`] does. Parts of `first` that do not change are
-    /// moved.
+    /// Returns the difference of `first` and `other`, as [`Oracle::minus`] does. Parts of `first` that do not change
+    /// are moved.
     fn into_minus(
         &mut self,
         alloc: Global,

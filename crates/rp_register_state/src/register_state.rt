@@ -56,15 +56,16 @@ fn base_layer() -> Name
 }
 
 impl<F: Forms> RegisterState<F> {
-    /// Returns a register_state that keeps nothing yet, and the layer is the one that a script begins with. Takes no memory.
+    /// Returns a register_state that keeps nothing yet, and the layer is the one that a script begins with. Takes no
+    /// memory.
     pub fn new(alloc: Global) -> RegisterState<F>
         ensures { result ≡ opening }
     {
         RegisterState::opened(alloc, VisitCount::uncounted())
     }
 
-    /// Opens the register_state of `new`, which counts the nodes of the index of lots that its questions visit, so that a test
-    /// can tell a search from a walk over all lots. Takes no memory.
+    /// Opens the register_state of `new`, which counts the nodes of the index of lots that its questions visit, so that
+    /// a test can tell a search from a walk over all lots. Takes no memory.
     pub fn counting(alloc: Global) -> RegisterState<F>
         ensures { result ≡ opening }
     {
@@ -83,7 +84,8 @@ impl<F: Forms> RegisterState<F> {
         }
     }
 
-    /// Returns how many nodes of the index of lots all questions have visited: 0 for a register_state that does not count.
+    /// Returns how many nodes of the index of lots all questions have visited: 0 for a register_state that does not
+    /// count.
     pub fn visits(&self) -> u64 {
         self.visits.count()
     }

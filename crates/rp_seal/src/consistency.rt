@@ -13,8 +13,8 @@ use std::alloc::{AllocError, Global};
 /// The root hashes of a shorter tree and of a longer one.
 type RootPair = (NodeHash, NodeHash);
 
-/// Returns both root hashes of a subtree that the two trees share: the known one, if `proof` is empty, or else the only hash of
-/// `proof`.
+/// Returns both root hashes of a subtree that the two trees share: the known one, if `proof` is empty, or else the only
+/// hash of `proof`.
 fn common_roots(known: Option<NodeHash>, proof: &[NodeHash]) -> Option<RootPair>
     ensures { option_map bytes_pair result ≡ option_map root_pair (common_roots (option_map bytes_of known) (reverse (hashes_of proof.now))) }
 {
@@ -25,9 +25,9 @@ fn common_roots(known: Option<NodeHash>, proof: &[NodeHash]) -> Option<RootPair>
     }
 }
 
-/// Returns the root hashes of the first `first` and of all `second` leaves that a proof gives; `None` if its length does not fit.
-/// The last hash of `proof` is the one next to the longer tree's root; `known` is the shorter tree's root hash as long as only
-/// left subtrees were entered.
+/// Returns the root hashes of the first `first` and of all `second` leaves that a proof gives; `None` if its length
+/// does not fit. The last hash of `proof` is the one next to the longer tree's root; `known` is the shorter tree's root
+/// hash as long as only left subtrees were entered.
 fn consistency_roots(
     first: u64,
     second: u64,
@@ -77,7 +77,8 @@ fn fits_size(size: u64, root: &NodeHash) -> bool
     size > 0 || is_empty_root(root)
 }
 
-/// Returns whether `proof` is empty, `first` is the root hash of no entries, and `second` is as well if `second_size` is 0.
+/// Returns whether `proof` is empty, `first` is the root hash of no entries, and `second` is as well if `second_size`
+/// is 0.
 fn extends_empty_tree(
     first: &NodeHash,
     second_size: u64,
@@ -111,8 +112,8 @@ fn is_consistent(
     }
 }
 
-/// Returns whether `proof` shows that the list of `second_size` entries with the root hash `second` begins with the list of
-/// `first_size` entries with the root hash `first`. It reads at most 64 hashes of `proof`.
+/// Returns whether `proof` shows that the list of `second_size` entries with the root hash `second` begins with the
+/// list of `first_size` entries with the root hash `first`. It reads at most 64 hashes of `proof`.
 pub fn check_consistency(
     first_size: u64,
     first: &NodeHash,
@@ -131,8 +132,8 @@ pub fn check_consistency(
     is_consistent(first_size, first, second_size, second, proof)
 }
 
-/// Returns the proof that the list with the leaf hashes `hashes` begins with its `first` first entries, with the root hash of a
-/// shared subtree unless `is_known`.
+/// Returns the proof that the list with the leaf hashes `hashes` begins with its `first` first entries, with the root
+/// hash of a shared subtree unless `is_known`.
 fn consistency_path(
     alloc: Global,
     hashes: &[NodeHash],

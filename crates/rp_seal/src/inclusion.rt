@@ -9,8 +9,8 @@ use crate::hash::NodeHash;
 use crate::hashing::{leaf_hash, node_hash, root_of, split_point};
 use std::alloc::{AllocError, Global};
 
-/// Returns the root hash of `size` leaves that a proof gives with the leaf hash `leaf` at `index`; `None` if its length does not
-/// fit. The last hash of `proof` is the one next to the root.
+/// Returns the root hash of `size` leaves that a proof gives with the leaf hash `leaf` at `index`; `None` if its length
+/// does not fit. The last hash of `proof` is the one next to the root.
 fn inclusion_root(index: u64, size: u64, leaf: &NodeHash, proof: &[NodeHash]) -> Option<NodeHash>
     ensures { option_map bytes_of result ≡ inclusion_root index size (bytes_of leaf.now) (reverse (hashes_of proof.now)) }
 {
@@ -47,7 +47,8 @@ fn is_included(root: &NodeHash, size: u64, index: u64, entry: &[u8], proof: &[No
     }
 }
 
-/// Returns whether `proof` shows that the list of `size` entries with the root hash `root` has `entry` at `index`, counted from
+/// Returns whether `proof` shows that the list of `size` entries with the root hash `root` has `entry` at `index`,
+/// counted from
 /// 0. It reads at most 64 hashes of `proof`.
 pub fn check_inclusion(
     root: &NodeHash,
@@ -65,7 +66,8 @@ pub fn check_inclusion(
     is_included(root, size, index, entry, proof)
 }
 
-/// Returns the proof that the list with the leaf hashes `hashes` has at `index`, counted from 0, the entry that it has there.
+/// Returns the proof that the list with the leaf hashes `hashes` has at `index`, counted from 0, the entry that it has
+/// there.
 ///
 /// # Errors
 ///

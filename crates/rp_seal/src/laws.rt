@@ -18,8 +18,8 @@ pub fn tree_hash_equations()
     ensures split { (n : ℕ) → 1 < n → IsSplitPoint n (split_point n) }
 {}
 
-/// States that two lists of one length with one tree hash are the same list, or two strings have one SHA-256: two of those that
-/// are hashed to compute the tree hashes of both.
+/// States that two lists of one length with one tree hash are the same list, or two strings have one SHA-256: two of
+/// those that are hashed to compute the tree hashes of both.
 pub fn tree_hash_is_binding()
     ensures { (one other : List (List ℕ)) → length one ≡ length other → tree_hash one ≡ tree_hash other
         → (one ≡ other) ⊎ HasCollision (tree_inputs one ++ tree_inputs other) }

@@ -1,6 +1,7 @@
 #![tactic(auto)]
-//! Merkle trees over SHA-256 (RFC 9162, section 2.1): tree hashes, proofs of inclusion and of consistency, made and checked;
-//! and the entry of an act in the log of a book. docs/seal.md has the format, and says what an accepted proof means.
+//! Merkle trees over SHA-256 (RFC 9162, section 2.1): tree hashes, proofs of inclusion and of consistency, made and
+//! checked; and the entry of an act in the log of a book. docs/seal.md has the format, and says what an accepted proof
+//! means.
 
 mod act;
 mod consistency;

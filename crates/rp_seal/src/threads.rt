@@ -37,8 +37,8 @@ fn root_in_halves<R: Threads + Sync>(rt: &R, threads: usize, hashes: &[NodeHash]
     node_hash(&left_root, &right_root)
 }
 
-/// Returns the root hash of the tree with the leaf hashes `hashes`, as [`root_of`] does. More than 1,024 leaf hashes are given to
-/// up to 8 threads.
+/// Returns the root hash of the tree with the leaf hashes `hashes`, as [`root_of`] does. More than 1,024 leaf hashes
+/// are given to up to 8 threads.
 pub fn root_by_threads<R: Threads + Sync>(rt: &R, hashes: &[NodeHash]) -> NodeHash
     ensures { bytes_of result ≡ root_of (hashes_of hashes.now) }
 {

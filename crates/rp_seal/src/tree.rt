@@ -50,7 +50,8 @@ fn root_over(peaks: &[Peak], root: NodeHash) -> NodeHash
     }
 }
 
-/// A Merkle tree to which leaf hashes are added one at a time. It has at most one hash for each binary digit of its size.
+/// A Merkle tree to which leaf hashes are added one at a time. It has at most one hash for each binary digit of its
+/// size.
 #[derive(Drop)]
 pub struct CompactTree {
     pub(crate) peaks: Vec<Peak>,

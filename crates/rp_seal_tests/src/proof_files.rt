@@ -3,7 +3,8 @@ use rp_seal_text::{ActProof, act_proof_text, link_text, read_act_proof, read_lin
 use std::alloc::Global;
 use std::process::Abort;
 
-/// An act with its proof in a log of two entries, the second of no bytes. The hash is base64 of Python's standard library.
+/// An act with its proof in a log of two entries, the second of no bytes. The hash is base64 of Python's standard
+/// library.
 static ACT_PROOF: &str =
     "rpstore act 1\nact 3\nfirst 7\nlast 9\nadded 19\n2026-11-30 12:00:00\nwho 8\nA. Clerk\nno deed\nlines 12\nretire west\n\nsize 2\nproof 1\nbjQLnP+zepicpUTmu3gKLHiQHT+zNzh2hRGjBhevoB0=\n";
 

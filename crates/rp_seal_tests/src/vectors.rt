@@ -1,4 +1,5 @@
-//! The test data that implementations of Certificate Transparency (RFC 6962 and 9162) share: entries, root hashes and proofs.
+//! The test data that implementations of Certificate Transparency (RFC 6962 and 9162) share: entries, root hashes and
+//! proofs.
 
 use rp_seal::{NodeHash, leaf_hash};
 use std::alloc::Global;
@@ -29,7 +30,8 @@ pub static ROOTS: [&str; 9] = [
     "5dc9da79a70659a9ad559cb701ded9a2ab9d823aad2f4960cfe370eff4604328",
 ];
 
-/// A proof of the first `size` entries: of inclusion of the entry at `index`, or of consistency with the first `index` entries.
+/// A proof of the first `size` entries: of inclusion of the entry at `index`, or of consistency with the first `index`
+/// entries.
 pub struct Vector {
     pub index: usize,
     pub size: usize,

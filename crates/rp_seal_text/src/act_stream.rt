@@ -37,7 +37,8 @@ fn take_acts(alloc: Global, text: &[u8]) -> Result<Option<Vec<SealedAct<'_>>>, A
     }
 }
 
-/// Returns the acts of the stream whose text is `text`. `None` unless `text` is the text of a stream of acts, and nothing else.
+/// Returns the acts of the stream whose text is `text`. `None` unless `text` is the text of a stream of acts, and
+/// nothing else.
 ///
 /// # Errors
 ///

@@ -39,8 +39,8 @@ impl Checkpoint {
     ghost use Rattle.std.specs.Prelude.{◌↔◌, IsSome, IfSome};
     ghost use Rattle.rp_seal_text.specs.Checkpoint.{fields_of};
 
-    /// Creates a checkpoint of `size` entries with the root hash `root`; `None` if `origin` is empty or has an ASCII control
-    /// character.
+    /// Creates a checkpoint of `size` entries with the root hash `root`; `None` if `origin` is empty or has an ASCII
+    /// control character.
     pub fn new(origin: String, size: u64, root: NodeHash) -> Option<Checkpoint>
         ensures found { IsSome result ↔ IsTrue (is_origin (string_bytes origin)) }
         ensures value { IfSome result (λ c. fields_of c ≡ record { origin = string_bytes origin; size = size; root = root.bytes }) }

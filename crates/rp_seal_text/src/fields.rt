@@ -31,7 +31,8 @@ pub(crate) fn take_number<'a>(name: &[u8], text: &'a [u8]) -> Option<(u64, &'a [
     Some((number, rest))
 }
 
-/// Returns the number of the line `name` with which `text` begins, if the number is below 2^32, and what follows the line.
+/// Returns the number of the line `name` with which `text` begins, if the number is below 2^32, and what follows the
+/// line.
 pub(crate) fn take_u32<'a>(name: &[u8], text: &'a [u8]) -> Option<(u32, &'a [u8])>
     requires { IsLine name.now }
     ensures found { IfSome result (λ p. text.now ≡ number_line name.now p.0 ++ p.1.now) }
@@ -84,8 +85,8 @@ pub(crate) fn take_absence<'a>(name: &[u8], text: &'a [u8]) -> Option<&'a [u8]>
     take_prefix(b"\n", ended)
 }
 
-/// Returns the text in UTF-8 with which `text` begins under the name `name`, or `None` in its place if `text` begins with the
-/// line `no NAME`; and what follows.
+/// Returns the text in UTF-8 with which `text` begins under the name `name`, or `None` in its place if `text` begins
+/// with the line `no NAME`; and what follows.
 pub(crate) fn take_option<'a>(name: &[u8], text: &'a [u8]) -> Option<(Option<&'a str>, &'a [u8])>
     requires line { IsLine name.now }
     requires apart { IsOptionName name.now }

@@ -64,7 +64,8 @@ fn read_hashes(
     }
 }
 
-/// Returns the hashes of a proof if `text` is their text and nothing else. It refuses more than 64 hashes before it takes memory.
+/// Returns the hashes of a proof if `text` is their text and nothing else. It refuses more than 64 hashes before it
+/// takes memory.
 ///
 /// # Errors
 ///

@@ -1,6 +1,6 @@
 #![tactic(auto)]
-//! The texts of a log, written and read: checkpoints (C2SP tlog-checkpoint), acts, act proofs and links. Other tools sign them.
-//! docs/seal.md has the formats.
+//! The texts of a log, written and read: checkpoints (C2SP tlog-checkpoint), acts, act proofs and links. Other tools
+//! sign them. docs/seal.md has the formats.
 
 mod act_proof;
 mod act_stream;

@@ -61,8 +61,8 @@ pub(crate) fn read_root(alloc: Global, line: &[u8]) -> Result<Option<NodeHash>, 
     }
 }
 
-/// Returns the checkpoint with whose lines `text` begins, or `None` if `text` begins with no checkpoint. What follows the third
-/// line is not read: extension lines, an empty line, signatures.
+/// Returns the checkpoint with whose lines `text` begins, or `None` if `text` begins with no checkpoint. What follows
+/// the third line is not read: extension lines, an empty line, signatures.
 ///
 /// # Errors
 ///

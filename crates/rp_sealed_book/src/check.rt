@@ -10,8 +10,8 @@ use std::alloc::{AllocError, Global};
 
 /// Returns whether `proof` shows that the book of `seal` has the act of `proof`.
 ///
-/// If it does, every book with this seal has the act with its number: its lines, when it was added, by whom and under which deed.
-/// The one way out is a collision of SHA-256.
+/// If it does, every book with this seal has the act with its number: its lines, when it was added, by whom and under
+/// which deed. The one way out is a collision of SHA-256.
 ///
 /// # Errors
 ///
@@ -40,8 +40,8 @@ pub fn check_act(alloc: Global, proof: &ActProof<'_>, seal: &Checkpoint) -> Resu
 
 /// Returns whether `link` shows that the book of `new` begins with the acts of `old`.
 ///
-/// If it does, every book with the seal `new` begins with the acts of every book with the seal `old`. The one way out is a
-/// collision of SHA-256.
+/// If it does, every book with the seal `new` begins with the acts of every book with the seal `old`. The one way out
+/// is a collision of SHA-256.
 pub fn check_link(old: &Checkpoint, new: &Checkpoint, link: &Link) -> bool
     ensures exact { IsTrue result ↔ LeadsFrom (fields_of old.now) (fields_of new.now) (link_fields link.now) }
     // Each log with the seal `new` begins with each that has the seal `old`, or two strings have one SHA-256: two of those that

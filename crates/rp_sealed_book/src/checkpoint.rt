@@ -32,7 +32,8 @@ pub fn root<T: Threads + Sync, B: Book>(
     Ok(root_by_threads(threads, &leaves))
 }
 
-/// Returns the text of the checkpoint of `book` under `origin`; `None` if `origin` is empty or has an ASCII control character.
+/// Returns the text of the checkpoint of `book` under `origin`; `None` if `origin` is empty or has an ASCII control
+/// character.
 fn text_of<T: Threads + Sync, B: Book>(
     threads: &T,
     alloc: Global,
@@ -52,9 +53,9 @@ fn text_of<T: Threads + Sync, B: Book>(
     Ok(Some(text))
 }
 
-/// Puts into `sink` the checkpoint of `book` under `origin`: the origin, how many acts the book has, and the root hash of its acts.
-/// Returns whether `origin` may be one: it is not empty and has no ASCII control character. Otherwise nothing is put. The root hash
-/// is computed by `threads`.
+/// Puts into `sink` the checkpoint of `book` under `origin`: the origin, how many acts the book has, and the root hash
+/// of its acts. Returns whether `origin` may be one: it is not empty and has no ASCII control character. Otherwise
+/// nothing is put. The root hash is computed by `threads`.
 ///
 /// # Errors
 ///

@@ -41,12 +41,12 @@ pub(crate) fn compare<T: Threads + Sync>(
     }
 }
 
-/// Compares `book` with `seal`. Returns `Begins` if the first acts of the book, as many as were sealed, have the sealed root
-/// hash, `Differs` if they have another one, and `Shorter` if there are fewer acts.
+/// Compares `book` with `seal`. Returns `Begins` if the first acts of the book, as many as were sealed, have the sealed
+/// root hash, `Differs` if they have another one, and `Shorter` if there are fewer acts.
 ///
-/// After `Begins` the acts that were sealed, whatever they were, are the first acts of the book: their lines, when they were
-/// added, by whom and under which deed. The one way out is a collision of SHA-256. The hashes of the book are computed by
-/// `threads`.
+/// After `Begins` the acts that were sealed, whatever they were, are the first acts of the book: their lines, when they
+/// were added, by whom and under which deed. The one way out is a collision of SHA-256. The hashes of the book are
+/// computed by `threads`.
 ///
 /// # Errors
 ///

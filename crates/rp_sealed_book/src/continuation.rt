@@ -32,8 +32,9 @@ fn link_of(alloc: Global, leaves: &[NodeHash], size: u64) -> Result<Link, AllocE
     })
 }
 
-/// Puts into `sink` the proof that `book` continues the acts of `seal`, if it does, and compares the two as [`crate::verify`] does.
-/// Nothing is put unless the verdict is `Begins`. The hashes of the book are computed by `threads`.
+/// Puts into `sink` the proof that `book` continues the acts of `seal`, if it does, and compares the two as
+/// [`crate::verify`] does. Nothing is put unless the verdict is `Begins`. The hashes of the book are computed by
+/// `threads`.
 ///
 /// # Errors
 ///

@@ -24,7 +24,8 @@ fn entry_with<'a>(script: &'a [u8], acts: &'a [Act], number: u32) -> Option<Seal
     Some(entry_at(number, script, start_of(acts, place), act))
 }
 
-/// Returns the act `number` of `acts`, the acts of `script`, with the proof that they have it; `None` if there is no such act.
+/// Returns the act `number` of `acts`, the acts of `script`, with the proof that they have it; `None` if there is no
+/// such act.
 fn proof_of<'a, T: Threads + Sync>(
     threads: &T,
     alloc: Global,
@@ -44,8 +45,8 @@ fn proof_of<'a, T: Threads + Sync>(
     Ok(Some(ActProof { act, size, proof }))
 }
 
-/// Puts into `sink` the act `number` of `book`, with the proof that the book has it. Returns whether there is such an act;
-/// otherwise nothing is put. The hashes of the book are computed by `threads`.
+/// Puts into `sink` the act `number` of `book`, with the proof that the book has it. Returns whether there is such an
+/// act; otherwise nothing is put. The hashes of the book are computed by `threads`.
 ///
 /// # Errors
 ///

@@ -67,8 +67,8 @@ fn leaf_of(alloc: Global, entry: &SealedAct<'_>) -> Result<NodeHash, AllocError>
     Ok(leaf_hash(&bytes))
 }
 
-/// Returns the leaf hashes of `acts`, computed by one thread. The first of them has the number `first`, and its lines begin at the
-/// byte `from` of `script`.
+/// Returns the leaf hashes of `acts`, computed by one thread. The first of them has the number `first`, and its lines
+/// begin at the byte `from` of `script`.
 fn leaves_in_order(
     alloc: Global,
     script: &[u8],

@@ -13,7 +13,8 @@ use rp_scripts::{OutputFault, put_lines};
 use rp_seal_text::{ACTS_MARK, write_act, write_end};
 use std::alloc::{AllocError, Global};
 
-/// Appends the texts of `acts`, acts of `script`. The first of them is the act `number`, and its lines begin at the byte `start`.
+/// Appends the texts of `acts`, acts of `script`. The first of them is the act `number`, and its lines begin at the
+/// byte `start`.
 ///
 /// # Errors
 ///
@@ -44,8 +45,8 @@ fn write_acts(
     Ok(())
 }
 
-/// Returns the text of the stream of `acts`, the acts of `script`, from the act `from` on. From 0 on it is all acts, and none if
-/// `from` is above their number.
+/// Returns the text of the stream of `acts`, the acts of `script`, from the act `from` on. From 0 on it is all acts,
+/// and none if `from` is above their number.
 ///
 /// # Errors
 ///
@@ -63,8 +64,8 @@ fn stream_of(alloc: Global, script: &[u8], acts: &[Act], from: u32) -> Result<Ve
     Ok(text)
 }
 
-/// Puts into `sink` the acts of `book` from the act `from` on, as a stream that `rp_seal_text::read_acts` reads. From 0 on it is
-/// all acts, and none if `from` is above their number.
+/// Puts into `sink` the acts of `book` from the act `from` on, as a stream that `rp_seal_text::read_acts` reads. From 0
+/// on it is all acts, and none if `from` is above their number.
 ///
 /// # Errors
 ///

@@ -99,8 +99,8 @@ impl CellNode {
     }
 }
 
-/// Returns the tree of the two halves of a cell, whose own node is gone. A half gives a node in its place, and so on down
-/// to a leaf: so each node that stays keeps the middle of its cell.
+/// Returns the tree of the two halves of a cell, whose own node is gone. A half gives a node in its place, and so on
+/// down to a leaf: so each node that stays keeps the middle of its cell.
 fn unite(lower: Cells, middle: Middle, upper: Cells) -> Cells
     requires { AreHalves lower.entries middle upper.entries }
     ensures { SameCounts result.entries (lower.entries ++ upper.entries) }

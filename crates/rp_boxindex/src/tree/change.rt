@@ -13,7 +13,8 @@ use crate::place::{Entry, Place};
 use std::alloc::{AllocError, Global};
 
 impl Node {
-    /// Returns a node for an entry, with nothing below it; its height, top and hull are set where it is put into a tree.
+    /// Returns a node for an entry, with nothing below it; its height, top and hull are set where it is put into a
+    /// tree.
     pub(crate) fn alone(alloc: Global, entry: Entry) -> Result<Box<Node>, AllocError>
         ensures { IfOk result (λ node. node.value.entry ≡ entry) }
     {
