@@ -9,7 +9,7 @@ use Rattle.rp_boxindex.specs.tree.Views.{TreeView}
 use Rattle.rp_boxindex.proofs.Counts.{count-round, count-none, false_not_true}
 use Rattle.rp_boxindex.proofs.Ints.{lt_then_lt, neither_less, not_lt, le_self}
 use Rattle.std.proofs.lemmas.Bool.Decides.{Decides-int_eq}
-use borrow.Author.Oracle.{ltb-true, ltb-false}
+use borrow.Author.Tests.{ltb-true, ltb-false}
 use Rattle.std.proofs.lemmas.Bool.{lt-ltb, le-ltb}
 
 pub or_cases : (a b : Bool) → (a || b) ≡ true → (a ≡ true) ⊎ (b ≡ true)
