@@ -2,11 +2,10 @@
 //! taken for the book.
 
 use crate::copy::copy_acts;
-use crate::file::{FileFault, close, connect, make};
+use crate::file::{FileFault, Task, connect, make, run_and_close};
 use crate::path::{is_there, log_of};
 use rp_book::Book;
-use sqlite::{Alter, Connection, FileStore};
-use sqlite_disk::Disk;
+use sqlite::{Alter, Connection};
 use std::alloc::{AllocError, Global};
 use std::fs;
 
@@ -43,14 +42,41 @@ fn fill<B: Book, S: Alter + Drop>(
     Ok(copy.into_connection())
 }
 
-/// Makes a database in files a book with the acts of `book`, and closes it: all of it is then in the one file.
-fn fill_and_close<B: Book, D: Disk + Drop>(
+/// The task to make a database a book with the acts of another one.
+struct Filling<'a, B> {
+    book: &'a B,
+}
+
+impl<B: Book> Task for Filling<'_, B> {
+    type Outcome = Result<(), FileFault>;
+
+    ghost may_run = { λ _. Unit {0} };
+
+    fn run<S: Alter + Drop>(
+        self,
+        rt: &HostRuntime,
+        conn: Connection<S>,
+    ) -> (Result<(), FileFault>, Option<Connection<S>>) {
+        let Filling { book } = self;
+        match fill(rt, book, conn) {
+            Ok(conn) => (Ok(()), Some(conn)),
+            Err(fault) => (Err(fault), None),
+        }
+    }
+}
+
+/// Makes a new database at `path` a book with the acts of `book`, and closes it: all of it is then in the one file. Returns whether
+/// that failed, or why the database was not made.
+fn fill_new<B: Book>(
     rt: &HostRuntime,
     book: &B,
-    conn: Connection<FileStore<D>>,
-) -> Result<(), FileFault> {
-    let conn = fill(rt, book, conn)?;
-    close(conn)
+    path: &str,
+) -> Result<Result<(), FileFault>, FileFault> {
+    let conn = connect(rt, path)?;
+    match run_and_close(rt, Filling { book }, conn) {
+        (Ok(()), closed) => Ok(closed),
+        (Err(fault), _) => Ok(Err(fault)),
+    }
 }
 
 /// Gives the file that has all acts the name of the copy, `path`, unless there is such a file by now.
@@ -77,8 +103,7 @@ pub fn copy_book<B: Book>(rt: &HostRuntime, book: &B, path: &str) -> Result<(), 
     if is_there(rt, names.part.as_str()) || is_there(rt, names.part_log.as_str()) {
         return Err(FileFault::CutOff);
     }
-    let conn = connect(rt, names.part.as_str())?;
-    let mut done = fill_and_close(rt, book, conn);
+    let mut done = fill_new(rt, book, names.part.as_str())?;
     if done.is_ok() {
         done = finish(rt, &names, path);
     }

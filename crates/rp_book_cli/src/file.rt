@@ -105,9 +105,43 @@ pub fn connect(
 
 /// Closes a connection. What its log has comes into the file; where the disk does not let it, it stays in the log, and
 /// the next one who opens the file finds it there.
-pub fn close<D: Disk + Drop>(conn: Connection<FileStore<D>>) -> Result<(), FileFault> {
+fn close<D: Disk + Drop>(conn: Connection<FileStore<D>>) -> Result<(), FileFault> {
     conn.close()?;
     Ok(())
+}
+
+/// What is done with a database. It names no store of SQLite.
+pub trait Task {
+    /// What came of the task.
+    type Outcome: Drop;
+
+    // What a task has to know before it is done, as that other threads may be handed what it holds.
+    ghost may_run: { Self → Type 0 };
+
+    /// Does the task with `conn`. Also returns `conn` if something was written through it.
+    fn run<S: Alter + Drop>(
+        self,
+        rt: &HostRuntime,
+        conn: Connection<S>,
+    ) -> (Self::Outcome, Option<Connection<S>>)
+        requires { may_run self };
+}
+
+/// Does `task` with a database in files, and closes it if something was written. Also returns what came of closing it. This alone
+/// shows that files are a store of SQLite.
+pub fn run_and_close<K: Task, D: Disk + Drop>(
+    rt: &HostRuntime,
+    task: K,
+    conn: Connection<FileStore<D>>,
+) -> (K::Outcome, Result<(), FileFault>)
+    requires { K.may_run task }
+{
+    let (outcome, conn) = task.run(rt, conn);
+    let closed = match conn {
+        Some(conn) => close(conn),
+        None => Ok(()),
+    };
+    (outcome, closed)
 }
 
 /// Returns the time, in UTC, as 2026-11-30 12:00:00.
