@@ -52,8 +52,8 @@ pub trait Book {
         ensures gained { OnOk result (IfSome (script self.old) (λ kept. GainsAct (acts self.old) (acts self.new) (added_act kept lines.now entry.entry))) }
         ensures kept { OnErr result (Stays (acts self.old) (acts self.new)) }
         ensures cause { IfErr result (HasBookCause (faults self.old) (faults self.new)) }
-        ensures crash { IsCrashAtomic (finds self.old) (finds self.new) (script self.old) lines.now }
-        ensures only { OnOk result (RecoversOnly (finds self.new) (script self.new)) }
-        ensures found { OnOk result (has_honest_disk self.new → MayRecover (finds self.new) (script self.new)) }
-        ensures spared { faults self.new ≡ faults self.old → OnErr result (RecoversNoOther (finds self.old) (finds self.new)) };
+        ensures crash { IsCrashAtomic (recoverable self.old) (recoverable self.new) (script self.old) lines.now }
+        ensures only { OnOk result (RecoversOnly (recoverable self.new) (script self.new)) }
+        ensures found { OnOk result (has_honest_disk self.new → MayRecover (recoverable self.new) (script self.new)) }
+        ensures spared { faults self.new ≡ faults self.old → OnErr result (RecoversNoOther (recoverable self.old) (recoverable self.new)) };
 }
