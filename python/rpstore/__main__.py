@@ -47,7 +47,7 @@ def options_of(kind: Type[Kind], given: argparse.Namespace) -> Kind:
 
 
 def read(given: argparse.Namespace) -> bytes:
-    """Reads the file that the words `given` name, or standard input without one; of a book its script."""
+    """Reads the file that the words `given` name, or standard input without a file; reads the script of a book."""
     path = None if given.file == "-" else given.file
     try:
         with open(path, "rb") if path else sys.stdin.buffer as file:
@@ -83,7 +83,7 @@ def line_of(given: argparse.Namespace) -> Optional[int]:
 
 
 def asked_times(given: argparse.Namespace) -> times.Times:
-    """Returns all lots that ever were in a script or a book."""
+    """Returns all lots that ever existed in a script or a book."""
     asked, where = read_script(given, f"{given.word} --time", True)
     added = book.days(given.file) if is_book_file(given.file) else []
     return times.times(asked, where, store.program(given.store), added)
@@ -145,7 +145,7 @@ def write_overlaps(given: argparse.Namespace) -> Written:
 
 
 def ground(text: bytes, options: lots.Options) -> tuple[place.Place, list[str]]:
-    """Returns where a text lies on the map, or else nowhere, and what is to be said of that: an explanation needs no map."""
+    """Returns where a text lies on the map, or nowhere, and the lines to report about the place: an explanation needs no map."""
     try:
         return place.place_of(text, options), []
     except place.Unplaced as fault:
@@ -179,7 +179,7 @@ def read_script(given: argparse.Namespace, what: str, on_map: bool = False) -> t
 
 
 def region_of(given: argparse.Namespace, where: place.Place, version: int) -> tuple[str, list[str]]:
-    """Returns the expression of the region that the words `given` name, and what is to be said of it."""
+    """Returns the expression of the region that the words `given` name, and the lines to report about the region."""
     if not given.drawn:
         return given.region, []
     # GDAL and PROJ are imported for what is drawn alone.
@@ -227,12 +227,12 @@ def write_extract(given: argparse.Namespace) -> Written:
 
 
 def read_times(given: argparse.Namespace) -> Optional[times.Times]:
-    """Reads all lots that ever were, with --time."""
+    """Reads all lots that ever existed, with --time."""
     return asked_times(given) if given.time else None
 
 
 def write_geometries(given: argparse.Namespace) -> Written:
-    """Writes the lots of `lots` or `faces`, with --time all lots that ever were."""
+    """Writes the lots of `lots` or `faces`, with --time all lots that ever existed."""
     geometry, found = gis.GEOMETRIES[given.word], read_times(given)
     seen = found.seen if found else read_seen(given)
     return written(seen, as_json(gis.lifetimes(found, geometry) if found else gis.features(seen, geometry)))

@@ -21,7 +21,7 @@ def is_book(text: bytes) -> bool:
 
 
 def program(store: str) -> str:
-    """Returns the command that keeps books: by RPSTORE_BOOK, or the one next to the `store`."""
+    """Returns the command that keeps books: as RPSTORE_BOOK names it, or the command next to the `store`."""
     return os.environ.get("RPSTORE_BOOK") or f"{store}-book"
 
 

@@ -36,7 +36,7 @@ class Groups:
 
 
 def in_planes(cells: list[shape.Cell]) -> dict[shape.Half, list[tuple[bool, int, Ring]]]:
-    """The faces of convex bodies by their planes: on which side the body is, its place, and the polygon."""
+    """Returns the faces of convex bodies by their planes: on which side the body is, its place, and the polygon."""
     planes = defaultdict(list)
     for at, each in enumerate(cells):
         for half, polygon in each.faces:
@@ -47,7 +47,7 @@ def in_planes(cells: list[shape.Cell]) -> dict[shape.Half, list[tuple[bool, int,
 
 
 def hanging(cells: list[shape.Cell]) -> list[list[shape.Cell]]:
-    """Convex bodies in groups: those of one group hang together by areas that two of them have in common."""
+    """Returns convex bodies in groups: bodies of one group are connected by areas that two of them have in common."""
     groups = Groups(len(cells))
     for half, sides in in_planes(cells).items():
         flat = shape.Flattened(half, 1)
@@ -68,8 +68,8 @@ def all_edges(face: Face) -> Iterator[outline.Edge]:
 
 
 def shells(cells: list[shape.Cell]) -> Optional[Solid]:
-    """The closed surfaces of a group, the outer one first; or None where an edge has more than two faces, as where two arms of a
-    body touch in a line."""
+    """Returns the closed surfaces of a group, the outer one first; or None if an edge has more than two faces, as where
+    two arms of a body touch in a line."""
     faces = shape.split_rings(shape.facets(cells))
     at_edge = defaultdict(list)
     for number, face in enumerate(faces):
@@ -88,8 +88,8 @@ def shells(cells: list[shape.Cell]) -> Optional[Solid]:
 
 
 def pieces(body: Body) -> Iterator[tuple[str, Body, list[Solid]]]:
-    """The pieces of a lot, each with a name and as a body, with its solids: one, or where that cannot be one for each of its
-    convex parts."""
+    """Yields the pieces of a lot, each with a name, as a body, and with its solids: one solid, or one for each of its
+    convex parts if one solid is impossible."""
     groups = hanging(body.cells)
     for number, group in enumerate(groups, 1):
         piece = body if len(groups) == 1 else Body(body.label, True, body.layer, body.born, body.origins, group)
@@ -113,12 +113,12 @@ class Vertices:
         return [[[[self.place(point) for point in ring] for ring in face] for face in shell] for shell in solid]
 
     def geometry(self, solids: list[Solid]) -> dict[str, Any]:
-        """A solid, or several that make a composite one."""
+        """Returns a solid, or several solids as a composite solid."""
         found = [self.boundaries(solid) for solid in solids]
         return {"type": "Solid", "lod": "3", "boundaries": found[0]} if len(found) == 1 else {"type": "CompositeSolid", "lod": "3", "boundaries": found}
 
     def extent(self, origin: list[float]) -> list[float]:
-        """The least and the greatest coordinates on the map."""
+        """Returns the least and the greatest coordinates on the map."""
         return [float(told.decimal(Fraction(end(point[axis] for point in self.places), self.scale) + Fraction(origin[axis]), 6))
                 for end in (min, max) for axis in range(3)]
 
@@ -128,9 +128,9 @@ def is_whole(solids: list[Solid]) -> bool:
 
 
 def planes(where: Place, piece: Body, solids: list[Solid]) -> dict[str, list[str]]:
-    """Returns the attribute `planes` of a piece that has corners that are no whole units, otherwise nothing: for each plane four whole
-    numbers A, B, C and D, so that Ax + By + Cz + D is 0 at its points, in millimetres on the map. Corners that are rounded to the
-    micrometre do not tell the planes."""
+    """Returns the attribute `planes` of a piece that has corners that are no integer units, otherwise nothing: for each
+    plane four integers A, B, C and D, so that Ax + By + Cz + D is 0 at its points, in millimetres on the map.
+    Corners that are rounded to the micrometre do not tell the planes."""
     if is_whole(solids):
         return {}
     east, north = 1000 * Fraction(where.east), 1000 * Fraction(where.north)
@@ -139,8 +139,8 @@ def planes(where: Place, piece: Body, solids: list[Solid]) -> dict[str, list[str
 
 
 def model(seen: Seen) -> dict[str, Any]:
-    """A CityJSON 2.0 model: each piece of a lot is a BuildingUnit, of a Building that stands for its layer. Other regions are
-    left out."""
+    """Returns a CityJSON 2.0 model: each piece of a lot is a BuildingUnit, of a Building that stands for its layer.
+    Other regions are left out."""
     units = [unit for body in bounded(seen) if body.is_lot for unit in pieces(body)]
     if not units:
         raise seen.without("no lot with an end")

@@ -28,7 +28,7 @@ def no_number(word: str) -> NoReturn:
 
 
 def documents(text: bytes) -> list[dict[str, Any]]:
-    """Returns the JSON objects of a file: one, or in a file in lines one for each.
+    """Returns the JSON objects of a file: one object, or one for each line of a file in lines.
 
     # Errors
     `Fault` if it is no JSON.
@@ -87,7 +87,7 @@ def lod_of(geometry: dict[str, Any]) -> str:
 
 
 def chosen(geometries: list[dict[str, Any]], lod: Optional[str]) -> list[dict[str, Any]]:
-    """Returns the geometries with solids of a level of detail, or of the finest one.
+    """Returns the geometries with solids of a level of detail, or of the finest level.
 
     # Errors
     `Unfit` if there is none.
@@ -149,8 +149,8 @@ def objects(found: list[dict[str, Any]]) -> Iterator[Object]:
 
 
 def things(found: list[dict[str, Any]], choice: Choice) -> list[Thing]:
-    """Returns the features of a model. City objects with one attribute for the id and the same parents are one feature. One that has
-    children and no solid is none."""
+    """Returns the features of a model. City objects with the same attribute for the id and the same parents are one
+    feature. A city object that has children and no solid is no feature."""
     made: dict[Union[int, tuple[str, ...]], Thing] = {}
     for number, (key, each, attributes, vertices) in enumerate(objects(found), 1):
         geometries, kind = each.get("geometry") or [], each.get("type")
@@ -165,7 +165,7 @@ def things(found: list[dict[str, Any]], choice: Choice) -> list[Thing]:
 
 
 def own_origin(found: dict[str, Any]) -> Optional[tuple[Fraction, Fraction]]:
-    """Returns the translation of a model as a local origin, if it moves no heights and is in whole millimetres."""
+    """Returns the translation of a model as a local origin, if it moves no heights and is in integer millimetres."""
     _, (east, north, up) = placing(found.get("transform"))
     return None if up or east * 1000 % 1 or north * 1000 % 1 else (east, north)
 

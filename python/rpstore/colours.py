@@ -9,7 +9,7 @@ PALETTE = ["#7fb2d8", "#f2b66d", "#93c98b", "#e59a96", "#b7a3d6", "#d9cf7a", "#8
 
 
 def touching(boxes: list[Box]) -> Iterator[tuple[int, int]]:
-    """The places in `boxes` of each two that touch or overlap."""
+    """Yields the places in `boxes` of each two that touch or overlap."""
     active: list[int] = []
     for at in sorted(range(len(boxes)), key=lambda at: boxes[at][0]):
         low, high = boxes[at]
@@ -22,7 +22,8 @@ def touching(boxes: list[Box]) -> Iterator[tuple[int, int]]:
 
 
 def chosen(count: int, pairs: dict[tuple[int, int], int]) -> list[int]:
-    """The places in `PALETTE` for `count` things. `pairs` has for each two things how much they want different ones."""
+    """Returns the places in `PALETTE` for `count` things. `pairs` has, for each two things, how much their colours
+    should differ."""
     near: list[list[tuple[int, int]]] = [[] for _ in range(count)]
     for (one, other), weight in pairs.items():
         near[one].append((other, weight))

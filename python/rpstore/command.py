@@ -53,7 +53,7 @@ def corners(count: int) -> list[Due]:
 
 
 def spelled(units: int) -> str:
-    """A coordinate in units as version 2 spells it."""
+    """Returns a coordinate in units as version 2 spells it."""
     return f"{'-' if units < 0 else ''}{abs(units) // 1000}.{abs(units) % 1000:03d}"
 
 
@@ -74,7 +74,7 @@ class Refusal(Exception):
 
     @property
     def word(self) -> Optional[str]:
-        """The word that does not fit, or None where the line ends before it."""
+        """Returns the word that does not fit, or None if the line ends before it."""
         return self.words[self.place] if self.place < len(self.words) else None
 
 
@@ -95,7 +95,7 @@ class Command:
         return self.words[0]
 
     def expression(self, place: int = 0) -> str:
-        """The text of the expression at a place, from 0."""
+        """Returns the text of the expression at a place, from 0."""
         begin, end = self.expressions[place]
         return " ".join(self.words[begin:end])
 
@@ -141,7 +141,7 @@ class Reader:
             self.fault("zero", HALF[-1], before=1)
 
     def node(self) -> int:
-        """Reads one word of an expression with what is its own, and tells how many expressions follow."""
+        """Reads one word of an expression with its numbers or names, and returns how many expressions follow."""
         word = self.word()
         if word not in NODES:
             self.fault("syntax", AN_EXPRESSION)
@@ -211,5 +211,5 @@ class Reader:
 
 
 def read(line: str, version: int) -> Command:
-    """The command of a line, or its first fault, which is raised as a `Refusal`."""
+    """Returns the command of a line, or its first fault, which is raised as a `Refusal`."""
     return Reader(line, version).command()

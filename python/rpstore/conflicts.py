@@ -41,7 +41,7 @@ class Conflict:
 
 
 def refused_line(case: explain.Case) -> RefusedLine:
-    """Returns what is to be told of a refused line. The register of the `case` changes with the next line."""
+    """Returns what to report about a refused line. The register of the `case` changes with the next line."""
     if case.answer.command is None:
         return RefusedLine(case.answer, None, (), explain.short_sentence(case), [])
     others = tuple(map(case.child, case.told)) if case.answer.verdict.cause in OF_CHILDREN else case.told
@@ -72,8 +72,8 @@ def regions_of(run: store.Run) -> dict[str, Body]:
 
 
 def conflicts(script: Script, place: Place, program: str) -> tuple[list[Conflict], store.Run]:
-    """Asks the store `program` for the refused lines of a `script` and for the region in the way of each; returns these, and the
-    report that shows the regions."""
+    """Asks the store `program` for the refused lines of a `script` and for the region in the way of each refused line;
+    returns both, and the report that shows the regions."""
     told = store.run(program, script.text, "run", "brief")
     cases = explain.cases(told, place, limits.met(told, program))
     refused = {case.answer.number: refused_line(case) for case in cases}
@@ -104,7 +104,8 @@ def all_overlaps(script: Script, place: Place, program: str) -> Iterator[str]:
 # ---- features
 
 def attributes(each: Conflict) -> dict[str, Any]:
-    """Returns the properties of a feature. Lengths are those of the box round the region in the way, areas and volumes its own."""
+    """Returns the properties of a feature. Lengths are lengths of the box round the region in the way; areas and
+    volumes are those of the region."""
     refused, body = each.refused, each.region
     answer = refused.answer
     found = {"line": answer.number, "editor_line": answer.number + (answer.version == 2), "id": refused.id, "cause": answer.verdict.cause,

@@ -57,7 +57,7 @@ class Region(NamedTuple):
 # ---- corners
 
 def corner_of(point: MapPoint, rules: Rules) -> Point:
-    """Returns a point in units from the local origin: whole ones, unless the file states planes.
+    """Returns a point in units from the local origin: with integer coordinates, unless the file states planes.
 
     # Errors
     `Unfit` if it is too far away.
@@ -71,7 +71,7 @@ def corner_of(point: MapPoint, rules: Rules) -> Point:
 
 
 def ring_of(ring: Iterable[MapPoint], rules: Rules) -> Ring:
-    """Returns the corners of a ring, without those that repeat the one before."""
+    """Returns the corners of a ring, without corners that repeat the previous corner."""
     found: list[Point] = []
     for point in ring:
         corner = corner_of(point, rules)
@@ -103,7 +103,7 @@ def is_whole(face: list[Ring]) -> bool:
 
 
 def stated_plane(corners: list[Point], rules: Rules) -> Optional[plane.Fit]:
-    """Returns the plane of those that the file states to which corners were rounded, or None."""
+    """Returns the plane, among the planes that the file states, to which corners were rounded, or None."""
     fits = [plane.fit_of(canonical(half), corners) for half in rules.stated if plane.fits(half)]
     best = min(fits, key=lambda fit: (fit.off, fit.half), default=None)
     return best if best and best.off <= ROUNDING * rules.step else None
@@ -129,7 +129,7 @@ class Bent(Unfit):
 
 
 def see_planes(bent: list[Bent]) -> None:
-    """Sees that all faces have a plane.
+    """Checks that all faces have a plane.
 
     # Errors
     `Unfit` if some are `bent`: the furthest from a plane, how many they are, and what may help.
@@ -184,7 +184,7 @@ def inward(half: Half, direction: tuple[Number, ...]) -> Half:
 
 
 def faces_of(name: str, solid: Solid, rules: Rules) -> tuple[list[Face], bool]:
-    """Returns the faces of a solid with their planes, and whether all corners lie in these."""
+    """Returns the faces of a solid with their planes, and whether all corners lie in their planes."""
     found, is_exact, bent = [], True, []
     for number, shell in enumerate(solid):
         of = (f" of shell {number + 1}" if len(solid) > 1 else "") + name
@@ -249,7 +249,7 @@ class Near:
         self.about = [tuple(map(float, corner)) for corner in self.exact]
 
     def square(self, corner: Point) -> Fraction:
-        """Returns the square of the distance from a corner to the nearest one of these."""
+        """Returns the square of the distance from a corner to the nearest of these corners."""
         at = plane.numbers(corner)
         x, y, z = map(float, at)
         place = min(range(len(self.about)), key=lambda place: sum((a - b)**2 for a, b in zip(self.about[place], (x, y, z))))
@@ -275,7 +275,7 @@ def planes_at(faces: list[Face], tolerance: Fraction) -> dict[Point, list[Half]]
 
 
 def see_corners(cells: list[Cell], faces: list[Face], tolerance: Fraction, reach: Fraction) -> list[Moved]:
-    """Returns how far the corners of a solid have moved, where some did.
+    """Returns how far the corners of a solid have moved, for each corner that moved.
 
     # Errors
     `Unfit` if one moved further than `reach`, or if there is one that the model does not have.

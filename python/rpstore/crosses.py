@@ -93,7 +93,7 @@ def local(numbers: Sequence[int], where: Place) -> list[int]:
 
 
 def expression(line: Line, version: int) -> str:
-    """Returns boxes round a line, as a script of a `version` spells them."""
+    """Returns boxes round a line, written for a script of a `version`."""
     spelled = command.speller(version)
     return joined("or", [f"box {' '.join(map(spelled, low + high))}" for low, high in line.boxes(BOXES)])
 
@@ -101,7 +101,8 @@ def expression(line: Line, version: int) -> str:
 # ---- questions
 
 def steps(stations: Sequence[Fraction]) -> Iterator[Stretch]:
-    """Yields what a line is made of by its `stations`, in order: a station, the stretch to the next one, that one, and so on."""
+    """Yields the parts of a line by its `stations`, in order: a station, the stretch to the next station, the next
+    station, and so on."""
     for begin, end in zip(stations, stations[1:]):
         yield from ((begin, begin), (begin, end))
     yield stations[-1], stations[-1]
@@ -170,7 +171,7 @@ def runs(stretches: Sequence[Stretch], owners: Sequence[Optional[str]]) -> Itera
 
 
 def crossings_of(stretches: Sequence[Stretch], owners: dict[str, list[Optional[str]]], near: Sequence[report.Lot]) -> list[Crossing]:
-    """Returns what lots have of a line, by its steps and the owners of these in each layer."""
+    """Returns what lots have of a line, by the steps of the line and the owners of the steps in each layer."""
     known = {lot.id: lot for lot in near}
     found = [Crossing(known[owner], begin, end) for each in owners.values() for owner, begin, end in runs(stretches, each) if owner]
     return sorted(found, key=lambda each: (each.begin, each.end))

@@ -58,7 +58,7 @@ def in_version(expression: str, version: int) -> str:
 
 
 def expression(options: Options, place: Place, version: int) -> tuple[str, list[str]]:
-    """Returns the region as an expression for a script at a `place`, and what is to be said of it.
+    """Returns the region as an expression for a script at a `place`, and the lines to report about the region.
 
     # Errors
     `Fault` if the file cannot be read, or one of its features is no polygon between two heights.

@@ -25,7 +25,7 @@ def listed(words: Sequence[str]) -> str:
 
 
 def line(number: int, version: int) -> str:
-    """The number of a line as a report counts, and as an editor does, which counts the mark of version 2 too."""
+    """Returns the number of a line as a report counts, and as an editor does, which counts the mark of version 2 too."""
     return f"line {number}" + (f" (in an editor {number + 1})" if version == 2 else "")
 
 
@@ -37,13 +37,13 @@ def bounds(due: command.Due, version: int) -> str:
 
 
 def short(word: str) -> str:
-    """A word as it is quoted: of a long one its beginning, and what cannot be seen spelled out."""
+    """Returns a word as messages quote it: only the beginning of a long word, with invisible characters spelled out."""
     seen = "".join(each if each.isprintable() else each.encode("unicode_escape").decode() for each in word[:37])
     return f"{seen}... ({len(word)} characters)" if len(word) > 40 else seen + word[37:]
 
 
 def misread(fault: command.Refusal, version: int) -> str:
-    """The word that does not fit, what is due there, and the bound."""
+    """Returns the word that does not fit, what is due there, and the bound."""
     due = fault.due
     if fault.cause == "zero":
         return f"the four numbers of half that end with word {fault.place + 1} are all 0, which is no half-space"
@@ -73,8 +73,8 @@ def of_no_command(answer: report.Answer, known: hints.Known) -> str:
 
 @dataclass
 class Case:
-    """A command that was refused: its answer, what the lines before it registered, where it is on the map, the names that any
-    line gives or was advised to give, and which limit of the store it met, if that is known."""
+    """A refused command: its answer; what the earlier lines registered; its place on the map; every name that a line
+    gives or was advised to give; and the limit of the store that it reached, if known."""
 
     answer: report.Answer
     register: lots.Register
@@ -88,20 +88,20 @@ class Case:
 
     @property
     def told(self) -> tuple[str, ...]:
-        """The names or numbers behind the cause."""
+        """Returns the names or numbers after the cause."""
         told: tuple[str, ...] = self.answer.verdict.told
         return told
 
     @property
     def lot(self) -> str:
-        """The lot or the name that the command speaks of first."""
+        """Returns the lot or the name that the command speaks of first."""
         return self.command.names[0] if self.command.names else ""
 
     def child(self, number: str) -> str:
         return self.command.names[int(number)]
 
     def region(self, number: str) -> str:
-        """The expression of a child."""
+        """Returns the expression of a child."""
         return self.command.expression(int(number) - 1)
 
     def line(self, number: int) -> str:
@@ -110,8 +110,8 @@ class Case:
 
 @dataclass
 class Reason:
-    """Why a command was refused; of what the report shows a point, where it does; and how the region with that point is named,
-    step by step: each step a name and an expression, in which {} stands for the name of the step before."""
+    """Why a command was refused. If the report shows a point: what the point lies in, and how the region with the
+    point is named in steps, each a name and an expression; {} stands for the name of the previous step."""
 
     why: str
     shown: str = ""
@@ -119,8 +119,8 @@ class Reason:
 
 
 def meant(label: str, mine: Collection[str], kind: str, others: Collection[str]) -> str:
-    """What may be meant by a name or an id `label` that is none of `mine`: the same word of the other `kind`, which has `others`,
-    or one that is nearly the same. Among very many that takes too long."""
+    """Returns what may be meant by a name or an id `label` that is none of `mine`: the same word of the other `kind`,
+    which has `others`, or one that is nearly the same. Among very many that takes too long."""
     if label in others:
         return f"; it is a {kind}: `{kind} {label}`"
     near = difflib.get_close_matches(label, mine, 1) if len(mine) <= MANY else []
@@ -128,7 +128,7 @@ def meant(label: str, mine: Collection[str], kind: str, others: Collection[str])
 
 
 def of_lot(case: Case, lot: str) -> str:
-    """What is known of a lot that is not live."""
+    """Returns what is known of a lot that is not live."""
     known = case.register.lots.get(lot)
     if known is None:
         return f"no lot {lot} was registered before this line" + meant(lot, case.register.lots, "name", case.register.names)
@@ -256,21 +256,22 @@ def exchanged_ends(expression: str) -> str:
 # ---- where it is
 
 def on_ground(point: list[Fraction], place: Place) -> str:
-    """A point in metres: from the local origin, or on the map where that is known."""
+    """Returns a point in metres: on the map if the place is known, otherwise from the local origin."""
     if not place.is_given:
         return "x {}, y {}, z {} m".format(*map(told.metres, point))
     return "E {}, N {}, H {} m".format(*(told.exact(place.metres(number, axis)) for axis, number in enumerate(point)))
 
 
 def shown(answer: report.Answer) -> list[list[Fraction]]:
-    """The points of the last proof line where that is a line `in`: their average is a point of what it shows."""
+    """Returns the points of the last proof line if it is a line `in`: their average is a point of the region that the
+    line shows."""
     if not answer.proof or not answer.proof[-1].startswith(b"  in "):
         return []
     return [[Fraction(number, point[3]) for number in point[:3]] for point in report.tuples(answer.proof[-1])]
 
 
 def extent(points: list[list[Fraction]], what: str, place: Place) -> str:
-    """A point of what the report shows, and how far its points reach."""
+    """Returns a point of what the report shows, and how far its points reach."""
     middle = [sum(numbers) / len(points) for numbers in zip(*points)]
     reach = [max(numbers) - min(numbers) for numbers in zip(*points)]
     wide = listed([f"{told.metres(length)} m {way}" for length, way in zip(reach, WAYS) if length])
@@ -278,7 +279,7 @@ def extent(points: list[list[Fraction]], what: str, place: Place) -> str:
 
 
 def fits(text: str, version: int) -> bool:
-    """Whether a line is short enough."""
+    """Returns whether a line is short enough."""
     try:
         command.read(text, version)
     except command.Refusal:
@@ -297,8 +298,8 @@ def named_steps(case: Case, reason: Reason) -> list[tuple[str, str]]:
 
 
 def lines_to_show(case: Case, reason: Reason, points: list[list[Fraction]]) -> list[str]:
-    """Lines for a script that show the region of a reason, and what it has at a height where the points say that it has
-    something."""
+    """Returns lines for a script that show the region of a reason, and its section at a height at which the points
+    show that it has points."""
     steps = named_steps(case, reason)
     name = steps[-1][0]
     made = [f"let {label} = {expression}" for label, expression in steps] + [f"pieces name {name}", f"show name {name}"]
@@ -340,7 +341,7 @@ def of_command(case: Case) -> str:
 
 
 def of_words(case: Case) -> str:
-    """Returns what is said of a line that is no command."""
+    """Returns the message for a line that is no command."""
     known = case.register
     return of_no_command(case.answer, lambda word: "name" if word in known.names else "lot" if word in known.lots else None) + "."
 
@@ -350,12 +351,12 @@ def head(case: Case) -> str:
 
 
 def sentence(case: Case) -> str:
-    """What is said of one refused line, and the lines of a script that show where it is."""
+    """Returns the message for one refused line, and the lines of a script that show where it is."""
     return head(case) + (of_words(case) if case.answer.command is None else of_command(case))
 
 
 def short_sentence(case: Case) -> str:
-    """Returns what is said of one refused line, without a place."""
+    """Returns the message for one refused line, without a place."""
     return head(case) + (of_words(case) if case.answer.command is None else summary(case, reason_of(case)))
 
 
@@ -371,5 +372,5 @@ def cases(text: bytes, place: Place, met: Mapping[int, str] = MappingProxyType({
 
 
 def explained(text: bytes, place: Place, met: Mapping[int, str] = MappingProxyType({})) -> Iterator[str]:
-    """What is to be said of each refused line of a report, with the limits that lines `met` by their numbers."""
+    """Returns what is to be said of each refused line of a report, with the limits that lines `met` by their numbers."""
     return map(sentence, cases(text, place, met))

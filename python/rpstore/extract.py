@@ -63,14 +63,14 @@ def book_of(lines: list[bytes], told: bytes) -> Book:
 # ---- which lines
 
 def ended_by(parsed: command.Command) -> list[str]:
-    """The lots that a command ends."""
+    """Returns the lots that a command ends."""
     if parsed.word in ("cut", "subdivide", "retire"):
         return parsed.names[:1]
     return parsed.names[1:] if parsed.word == "consolidate" else []
 
 
 def before(book: Book, number: int) -> Iterator[int]:
-    """The lines on which a line rests: those that give its names, that make its lots, that set its layer."""
+    """Yields the lines on which a line depends: lines that give its names, make its lots, or set its layer."""
     parsed, register = book.commands[number], book.register
     for kind, label in parsed.named:
         yield register.names[label] if kind == "name" else register.lots[label].born
@@ -81,7 +81,7 @@ def before(book: Book, number: int) -> Iterator[int]:
 
 
 def needed(book: Book, ids: Iterable[str], numbers: Iterable[int] = ()) -> set[int]:
-    """Returns the lines by which lots came and ended, the lines `numbers`, and all on which these rest."""
+    """Returns the lines by which lots were born and ended, the lines `numbers`, and all lines on which these depend."""
     found: set[int] = set()
     wanted = [*numbers, *(number for lot in ids for number in (book.register.lots[lot].born, book.register.lots[lot].ended) if number)]
     while wanted:
@@ -93,7 +93,7 @@ def needed(book: Book, ids: Iterable[str], numbers: Iterable[int] = ()) -> set[i
 
 
 def emptied(book: Book, numbers: Iterable[int]) -> list[bytes]:
-    """Returns the script with all lines empty but for some, the notes on them and their deeds, and the mark and the notes at its head."""
+    """Returns the script with all lines empty except some, the notes on them and their deeds, and the mark and the notes at its head."""
     lines = book.lines
     mark = range(book.version - 1)
     head = itertools.takewhile(lambda at: is_head(lines[at]), range(len(mark), len(lines)))
@@ -201,7 +201,7 @@ class Extract:
 
 
 def extract(text: bytes, ids: list[str], program: str, with_neighbours: bool = False) -> Extract:
-    """The extract of a script for some of its lots, with their neighbours if that is wished. `check` accepted its report."""
+    """Returns the extract of a script for some of its lots, with their neighbours if that is wished. `check` accepted its report."""
     words = ["history", "show lot"] + ["neighbours"] * with_neighbours
     whole = asked(lines_of(text), [f"{word} {lot}".encode() for lot in ids for word in words], program)
     # Of a lot that ended the history alone is known.

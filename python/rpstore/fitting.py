@@ -12,7 +12,7 @@ TRIED, LETTER = 17, 0.62
 
 
 def gaps(rings: Sequence[Corners], low: float, high: float) -> Iterator[tuple[float, float]]:
-    """The stretches (from x, to x) within which a band from `low` to `high` in y lies inside `rings`: no edge comes into it."""
+    """Yields the stretches (from x, to x) within which a band from `low` to `high` in y lies inside `rings`: no edge comes into it."""
     middle, walls = (low + high) / 2, []
     for (px, py), (qx, qy) in (edge for ring in rings for edge in edges(ring)):
         if py > qy:
@@ -30,19 +30,19 @@ def gaps(rings: Sequence[Corners], low: float, high: float) -> Iterator[tuple[fl
 
 
 def box_of(rings: Sequence[Corners]) -> Area:
-    """Least x and y, and greatest x and y."""
+    """Returns least x and y, and greatest x and y."""
     xs, ys = zip(*(point for ring in rings for point in ring))
     return min(xs), min(ys), max(xs), max(ys)
 
 
 def clear(box: Area, taken: list[Area]) -> bool:
-    """Whether a `box` overlaps none of those that are `taken`."""
+    """Returns whether a `box` overlaps none of the boxes that are `taken`."""
     return not any(box[0] < other[2] and other[0] < box[2] and box[1] < other[3] and other[1] < box[3] for other in taken)
 
 
 def room(rings: Sequence[Corners], width: float, height: float, taken: list[Area]) -> Optional[Area]:
-    """The box of a word of this `width` and `height` inside `rings`, as near to their middle as it finds one, that overlaps no
-    box of those that are `taken`; or None."""
+    """Returns the box of a word of this `width` and `height` inside `rings`, as near to their middle as it finds one,
+    that overlaps no box of those that are `taken`; or None."""
     west, south, east, north = box_of(rings)
     if east - west < width or north - south < height:
         return None

@@ -20,13 +20,13 @@ def on_map(place: Place, point: Point) -> list[float]:
 
 
 def closed(ring: Iterable[Point], placed: Callable[[Point], list[float]]) -> list[list[float]]:
-    """A ring on the map, which ends with the point at which it begins."""
+    """Returns a ring on the map, which ends with the point at which it begins."""
     points = [placed(point) for point in ring]
     return [*points, points[0]]
 
 
 def multipolygon(place: Place, regions: Iterable[outline.Outline]) -> Geometry:
-    """Of outer rings with their holes: the outer ones counterclockwise, as GeoJSON wants them."""
+    """Returns the coordinates of outer rings with their holes, outer rings counterclockwise, as GeoJSON needs them."""
     # A corner of a boundary is one of three faces or more.
     placed = functools.lru_cache(maxsize=None)(lambda point: on_map(place, point))
     return {"type": "MultiPolygon", "coordinates": [[closed(ring, placed) for ring in (outer, *holes)] for outer, holes in regions]}
@@ -45,7 +45,8 @@ def cubic_metres(units: Fraction) -> float:
 
 
 def attributes(body: Body) -> dict[str, Any]:
-    """What is told of a body. Areas and volumes are exact until they are printed here, to the square and cubic millimetre."""
+    """Returns the properties of a body. Areas and volumes are exact until they are printed here, to the square and
+    cubic millimetre."""
     low, high = body.box
     return {
         "id": body.label, "layer": body.layer, "born": body.born, "origins": ",".join(body.origins) or None, "base": metres(low[2]),
@@ -66,7 +67,7 @@ def collection(place: Place, features: Iterable[tuple[dict[str, Any], Optional[G
 
 
 def bounded(seen: Seen) -> list[Body]:
-    """The bodies that end within the domain cube."""
+    """Returns the bodies that end within the domain cube."""
     found = [body for body in seen.bodies if body.is_bounded]
     if not found:
         raise seen.without("no lot and no region with an end")
@@ -74,8 +75,8 @@ def bounded(seen: Seen) -> list[Body]:
 
 
 def sections(seen: Seen) -> dict[str, Any]:
-    """A feature for each line `section` whose region has points at its height: the lot, or how the region is called, its layer,
-    the line, the height and the area."""
+    """Returns a feature for each line `section` whose region has points at its height: the lot, or how the region is
+    called, its layer, the line, the height and the area."""
     shown = [each for each in seen.slices if each.polygons and each.is_bounded]
     if not shown:
         raise Fault("the report has no line `section` that shows something", 1, "add a line to the script, as `section lot X 1.500`, which cuts the lot X at 1.5 m")
@@ -106,18 +107,18 @@ def features(seen: Seen, geometry: Callable[[Place, Body], Geometry]) -> dict[st
 
 
 def footprints(seen: Seen) -> dict[str, Any]:
-    """A feature for each lot: what it covers in plan, and from where to where it reaches."""
+    """Returns a feature for each lot: the area that it covers in plan, and its lowest and highest height."""
     return features(seen, covered)
 
 
 def faces(seen: Seen) -> dict[str, Any]:
-    """A feature for each lot: its boundary, as polygons with heights."""
+    """Returns a feature for each lot: its boundary, as polygons with heights."""
     return features(seen, boundary)
 
 
 def lifetimes(found: Times, geometry: Callable[[Place, Body], Geometry]) -> dict[str, Any]:
-    """Returns a feature for each lot that ever was, with a `geometry`; the lines at which it came and ended, and the days of the notes
-    before them, each None if there is none. On the day `ends` it is no longer there."""
+    """Returns a feature for each lot that ever was, with a `geometry`; the lines at which it was born and ended, and
+    the days of the notes before them, each None if there is none. On the day `ends` it is no longer there."""
     def told_of(body: Body) -> dict[str, Any]:
         return {**attributes(body), "ended": body.ended, "begins": found.day_of(body.born) or None, "ends": found.day_of(body.ended) or None}
 

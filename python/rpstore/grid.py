@@ -34,12 +34,12 @@ def named(word: Optional[str]) -> Grid:
 
 
 def unit(grid: Grid) -> str:
-    """The unit of a grid's first axis."""
+    """Returns the unit of a grid's first axis."""
     return str(grid.axis_info[0].unit_name) if grid.axis_info else "metre"
 
 
 def at_middle(found: Grid, points: Sequence[Point]) -> str:
-    """A grid in metres that would do for points in a grid: the zone of UTM in which their middle lies."""
+    """Returns a grid in metres that would do for points in a grid: the zone of UTM in which their middle lies."""
     try:
         x, y = ((min(axis) + max(axis)) / 2 for axis in [*zip(*points)][:2])
         east, north = Transformer.from_crs(found, "EPSG:4326", always_xy=True).transform(x, y, errcheck=True)
@@ -51,7 +51,7 @@ def at_middle(found: Grid, points: Sequence[Point]) -> str:
 
 
 def see_metres(points: Sequence[Point]) -> None:
-    """Sees that the numbers of a plan that names no grid can be metres.
+    """Checks that the numbers of a plan that names no grid can be metres.
 
     # Errors
     `Fault` if all could be degrees, and at least half have more than three digits after the point.
@@ -63,8 +63,8 @@ def see_metres(points: Sequence[Point]) -> None:
 
 
 def grids(given: str, source: Optional[str], target: Optional[str], points: Sequence[Point]) -> tuple[Grid, Grid]:
-    """The grid in which the plan's points are, by its file or by --from, and that of the register, by --to or the same. A
-    register is in metres."""
+    """Returns the grid of the plan's points, named by the file or by --from, and the grid of the register, named by
+    --to or the same. A register is in metres."""
     found = named(source or given)
     if not (source or given):
         see_metres(points)
@@ -85,7 +85,8 @@ def grids(given: str, source: Optional[str], target: Optional[str], points: Sequ
 
 
 def projection(found: Grid, wanted: Grid) -> Callable[[Ring], Ring]:
-    """What brings a ring from its grid to that of the register. Of each point it takes two coordinates alone."""
+    """Returns the function that brings a ring from its grid to the grid of the register. It uses only two coordinates
+    of each point."""
     if found is None or found == wanted:
         return lambda ring: [(point[0], point[1]) for point in ring]
     try:
@@ -104,7 +105,8 @@ def projection(found: Grid, wanted: Grid) -> Callable[[Ring], Ring]:
 
 
 def code(grid: Grid) -> Optional[int]:
-    """The EPSG number of a grid, where that is sure, or is that of a grid with the same name and nearly the same numbers."""
+    """Returns the EPSG number of a grid, if it is certain, or the number of a grid with the same name and nearly the
+    same numbers."""
     sure, likely = grid.to_epsg(), grid.to_epsg(min_confidence=50)
     number: Optional[int] = sure or (likely if likely and CRS.from_epsg(likely).name == grid.name else None)
     return number
@@ -113,13 +115,13 @@ def code(grid: Grid) -> Optional[int]:
 # ---- the origin
 
 def near(number: Decimal, step: int) -> int:
-    """The multiple of a step that is nearest to a number."""
+    """Returns the multiple of a step that is nearest to a number."""
     return int((number / step).to_integral_value() * step)
 
 
 def chosen_origin(points: Sequence[Point]) -> tuple[int, int]:
-    """The first of these origins, in metres, from which all points are within the bounds, or else the last: 0 0; whole
-    kilometres, then whole metres, at the middle; whole kilometres near most of the points."""
+    """Returns the first of these origins, in metres, from which all points are within the bounds, or else the last: 0
+    0; whole kilometres, then whole metres, at the middle; whole kilometres near most of the points."""
     axes = [sorted(Decimal(repr(number)) for number in numbers) for numbers in zip(*points)]
     middle = [(axis[0] + axis[-1]) / 2 for axis in axes]
     most = [axis[len(axis) // 2] for axis in axes]
@@ -129,8 +131,8 @@ def chosen_origin(points: Sequence[Point]) -> tuple[int, int]:
 
 
 def how_to_clip(points: Sequence[Point], origin: tuple[int, int], wanted: Grid, path: str) -> list[str]:
-    """Where points reach further than a register: how far, and the command that takes what is near the point next to an origin
-    in units."""
+    """Returns where points reach further than a register: how far, and the command that takes what is near the point
+    next to an origin in units."""
     reach = [math.ceil(max(axis) - min(axis)) for axis in zip(*points)]
     if max(reach) * 1000 <= 2 * MOST_CORNER:
         return []

@@ -14,7 +14,7 @@ Known = Callable[[str], Optional[str]]
 
 
 def of_bytes(fault: Refusal) -> str:
-    """What stands in a word that an editor does not show."""
+    """Returns what is in a word that an editor does not show."""
     word = fault.word or ""
     if word == "":
         place = "at the beginning" if not fault.place else "at the end" if fault.place == len(fault.words) - 1 else "too many"
@@ -33,7 +33,7 @@ def of_bytes(fault: Refusal) -> str:
 
 
 def nearest(word: str, words: Iterable[str]) -> str:
-    """The word of the language that was meant, by its small letters or by most of its letters."""
+    """Returns the word of the language that was meant, by its small letters or by most of its letters."""
     words = [*words]
     found = [word.lower()] if word.lower() in words else difflib.get_close_matches(word.lower(), words, 1)
     return f"`{found[0]}` may be meant" if found else ""
@@ -57,7 +57,7 @@ def of_command(fault: Refusal) -> str:
 
 
 def of_count(fault: Refusal) -> str:
-    """Where a number stands right behind the last corner of a prism."""
+    """Returns a hint if a number follows the last corner of a prism."""
     before = fault.words[: fault.place]
     if "prism" in before and NUMBER.fullmatch(fault.word or ""):
         count = before[::-1].index("prism") - 3
@@ -90,7 +90,7 @@ def of_end(fault: Refusal) -> str:
 
 
 def of_label(fault: Refusal) -> str:
-    """What a name or an id has that none may have."""
+    """Returns what a name or an id has that none may have."""
     word = fault.word or ""
     if "=" in word:
         return "`=` is a word of its own"
@@ -105,7 +105,7 @@ def of_label(fault: Refusal) -> str:
 
 
 def of_corner(fault: Refusal) -> str:
-    """Where a corner is missing: how many the count says."""
+    """Returns a hint if a corner is missing: how many corners the count says."""
     number, count = re.findall("[0-9]+", fault.due.what)
     return f"the count says {count} corners, and {int(number) - 1} are there"
 
@@ -132,7 +132,7 @@ def of_range(fault: Refusal) -> str:
 
 
 def hint(fault: Refusal, version: int, known: Known) -> str:
-    """A hint to the first fault of a line of a version, or nothing."""
+    """Returns a hint to the first fault of a line of a version, or nothing."""
     word, due = fault.word, fault.due
     if fault.cause == "range":
         return of_range(fault)

@@ -174,7 +174,7 @@ class Reader:
         raise Unfit("the model names no unit of length")
 
     def see_world(self) -> None:
-        """Sees that the coordinates of the project are those of its world: programs disagree on how others are meant.
+        """Checks that the coordinates of the project are those of its world: programs disagree on how others are meant.
 
         # Errors
         `Unfit` if a context moves or turns the world.
@@ -265,7 +265,7 @@ def profile(reader: Reader, reference: Any) -> list[list[Vector]]:
 
 
 def extruded(reader: Reader, values: list[Any]) -> list[Surface]:
-    """Returns the one surface of an extruded area."""
+    """Returns the single surface of an extruded area."""
     rings = profile(reader, values[0])
     rings = [ring if (area(ring) > 0) == (at == 0) else turned(ring) for at, ring in enumerate(rings)]
     depth, place = exact(values[3]), reader.frame(values[1])
@@ -303,7 +303,7 @@ def listed_points(reader: Reader, reference: Any) -> list[Vector]:
 
 
 def polygons(reader: Reader, values: list[Any]) -> list[Surface]:
-    """Returns the one surface of a set of polygons."""
+    """Returns the single surface of a set of polygons."""
     points, places = listed_points(reader, values[0]), values[3] if len(values) > 3 else None
     faces = []
     for reference in values[2]:
@@ -314,7 +314,7 @@ def polygons(reader: Reader, values: list[Any]) -> list[Surface]:
 
 
 def triangles(reader: Reader, values: list[Any]) -> list[Surface]:
-    """Returns the one surface of a set of triangles."""
+    """Returns the single surface of a set of triangles."""
     points, places = listed_points(reader, values[0]), values[4] if len(values) > 4 else None
     return [[[[points[(places[at - 1] if places else at) - 1] for at in three]] for three in values[3]]]
 

@@ -60,7 +60,7 @@ def cells_of(reader: Reader, reference: Any, read: Read) -> list[Cell]:
 
 
 def tools_of(reader: Reader, reference: Any, read: Read) -> Tools:
-    """Returns what is taken away or kept."""
+    """Returns the half-spaces of each convex part of an operand that is subtracted or intersected."""
     name, values = reader.get(reference)
     if name not in HALF_SPACES:
         return [cell.halves for cell in cells_of(reader, reference, read)]
@@ -104,7 +104,7 @@ def place_of(point: Point) -> Vector:
 
 
 def surfaces_of(reader: Reader, reference: Any, read: Read) -> Iterator[list[Surface]]:
-    """Yields the surfaces of each solid that a result is: those of one for what hangs together by areas.
+    """Yields the surfaces of each solid that a result is: those of one for what is connected by areas.
 
     # Errors
     `Unfit` if a solid does not do, or nothing is left.

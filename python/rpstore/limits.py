@@ -86,7 +86,7 @@ def copy(answers: Sequence[report.Answer], questions: dict[int, list[str]]) -> b
 
 
 def asked(answers: Sequence[report.Answer], questions: dict[int, list[str]], program: str) -> dict[int, list[Optional[Form]]]:
-    """Asks the store `program` for the forms of expressions after lines of the script of `answers`; None if one is refused."""
+    """Runs the script of `answers` in the store `program`, then asks for the forms of the expressions; None if one is refused."""
     told = report.read(io.BytesIO(store.run(program, copy(answers, questions), "run", "brief")))
     found: dict[int, list[Optional[Form]]] = {}
     for answer in answers:
@@ -100,7 +100,7 @@ def asked(answers: Sequence[report.Answer], questions: dict[int, list[str]], pro
 # ---- which limit
 
 def candidates(word: str, forms: Sequence[Form]) -> list[str]:
-    """Returns which limits operands with these `forms` may meet if a `word` joins them."""
+    """Returns the limits that operands with these `forms` may reach if a `word` joins them."""
     product = 1
     for form in forms:
         product *= form.parts
@@ -115,7 +115,7 @@ def candidates(word: str, forms: Sequence[Form]) -> list[str]:
 
 
 def of_form(node: Node, forms: Sequence[Form]) -> str:
-    """Returns the limit that an expression meets, whose operands have these `forms`."""
+    """Returns the limit that an expression reaches, whose operands have these `forms`."""
     if node.word == "or":
         total = sum(form.parts for form in forms)
         return f"`{node.short}` has {total:,} parts in its {len(forms):,} operands, and a form has at most {MOST_PARTS:,}"

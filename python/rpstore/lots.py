@@ -33,12 +33,12 @@ class Body:
 
     @cached_property
     def facets(self) -> list[shape.Facet]:
-        """The boundary, without what two parts have in common."""
+        """Returns the boundary, without what two parts have in common."""
         return shape.facets(self.cells)
 
     @cached_property
     def footprint(self) -> list[Ring]:
-        """What the body covers in plan, as convex polygons that share no area."""
+        """Returns what the body covers in plan, as convex polygons that share no area."""
         return shape.footprint(self.facets)
 
     @cached_property
@@ -47,7 +47,7 @@ class Body:
 
     @cached_property
     def area(self) -> Fraction:
-        """The area in plan: what lies over each other counts once."""
+        """Returns the area in plan: what lies over each other counts once."""
         return sum(map(outline.area, self.footprint), Fraction(0))
 
     @cached_property
@@ -56,7 +56,7 @@ class Body:
 
     @property
     def is_bounded(self) -> bool:
-        """Whether the body reaches no side of the domain, within which every region ends."""
+        """Returns whether the body reaches no side of the domain, within which every region ends."""
         return all(each.is_bounded for each in self.cells)
 
 
@@ -74,7 +74,7 @@ class Slice:
 
     @cached_property
     def polygons(self) -> list[Ring]:
-        """What there is, as convex polygons that share no area."""
+        """Returns what there is, as convex polygons that share no area."""
         return outline.apart(self.rings)
 
     @cached_property
@@ -114,19 +114,19 @@ class Seen:
 
 
 def lot_of(parsed: Command) -> Optional[str]:
-    """The id of the lot where an expression is one lot and nothing else."""
+    """Returns the id of the lot where an expression is one lot and nothing else."""
     words = parsed.words[slice(*parsed.expressions[0])]
     return words[1] if words[0] == "lot" and len(words) == 2 else None
 
 
 def name_of(parsed: Command) -> Optional[str]:
-    """The name where an expression is one name and nothing else."""
+    """Returns the name where an expression is one name and nothing else."""
     words = parsed.words[slice(*parsed.expressions[0])]
     return words[1] if words[0] == "name" and len(words) == 2 else None
 
 
 def label_of(parsed: Command) -> str:
-    """How a picture and a table call what a line shows."""
+    """Returns how a picture and a table call what a line shows."""
     told = parsed.expression()
     return lot_of(parsed) or name_of(parsed) or (told if len(told) < LONGEST else told[:LONGEST - 3] + "...")
 
@@ -191,7 +191,7 @@ def lot_body(lot: report.Lot, cells: list[shape.Cell]) -> Optional[Body]:
 
 
 def body_of(answer: report.Answer, register: Register) -> Optional[Body]:
-    """The body that a line `show` shows, or None where it has no part. Regions that are no lots are in layers of their own."""
+    """Returns the body that a line `show` shows, or None if it has no part. Regions that are no lots are in layers of their own."""
     cells = cells_of(answer)
     if not cells:
         return None
@@ -204,14 +204,14 @@ def body_of(answer: report.Answer, register: Register) -> Optional[Body]:
 
 
 def slice_of(answer: report.Answer, register: Register) -> Slice:
-    """What a line `section` shows."""
+    """Returns what a line `section` shows."""
     parsed, lot = answer.parsed, lot_of(answer.parsed)
     rings = [[lowest((x, y, w)) for x, y, _, w in ring] for ring in answer.verdict if ring]
     return Slice(answer.number, lot, register.layer_of(lot) if lot else None, label_of(parsed), parsed.numbers[0], rings)
 
 
 def seen(file: BinaryIO, place: Optional[Place] = None, check: str = "") -> Seen:
-    """What a report shows. A region that is shown twice is taken where it is shown last, and a lot that ended is left out."""
+    """Returns what a report shows. A region that is shown twice is taken where it is shown last, and a lot that ended is left out."""
     register, refused, version = Register(), 0, 1
     bodies: dict[str, Body] = {}
     slices: list[Slice] = []

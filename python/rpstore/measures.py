@@ -11,8 +11,8 @@ HEAD = ("what", "layer", "line", "from_m", "to_m", "area_m2", "volume_m3")
 
 
 def rows(seen: Seen) -> Iterator[tuple[object, ...]]:
-    """For each body how it is called, its layer, the line at which it came, its lowest and highest points in metres, its area in
-    plan and its volume; for each slice the same of its height, without a volume."""
+    """Yields for each body how it is called, its layer, the line at which it came, its lowest and highest points in
+    metres, its area in plan and its volume; for each slice the same of its height, without a volume."""
     for body in seen.bodies:
         if body.is_bounded:
             low, high = (told.decimal(Fraction(end[2]) / 1000, 3) for end in body.box)
@@ -25,7 +25,7 @@ def rows(seen: Seen) -> Iterator[tuple[object, ...]]:
 
 
 def table(seen: Seen) -> str:
-    """The rows as comma-separated values. No name, layer or expression has a comma."""
+    """Returns the rows as comma-separated values. No name, layer or expression has a comma."""
     found = list(rows(seen))
     if not found:
         raise seen.without("no lot, no region with an end and no section")

@@ -115,7 +115,7 @@ def box_text(cells: Sequence[shape.Cell], version: int) -> str:
 
 
 def near(script: Script, box: str, wanted: Sequence[report.Lot], program: str) -> list[str]:
-    """Returns the ids of the lots of `wanted` that share a point with a `box` or touch it, and of those for which a limit is met."""
+    """Returns the ids of the lots of `wanted` that share a point with a `box` or touch it, and of those for which a limit is reached."""
     answers = script.answers([f"contact lot {lot.id} {box}" for lot in wanted], program)
     return [lot.id for lot, answer in zip(wanted, answers) if answer.verdict != "no"]
 

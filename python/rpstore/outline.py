@@ -19,23 +19,23 @@ Outline = tuple[Ring, list[Ring]]
 
 
 def area(ring: Ring) -> Fraction:
-    """The area that `ring` goes round, below 0 where it goes clockwise."""
+    """Returns the area that `ring` goes round, below 0 where it goes clockwise."""
     return Fraction(sum(ratio(p[0] * q[1] - p[1] * q[0], p[2] * q[2]) for p, q in edges(ring))) / 2
 
 
 def line_of(p: Point, q: Point) -> tuple[int, int, int]:
-    """(a, b, c) of the line through `p` and `q`, so that ax + by + cw is above 0 on its left and 0 on it."""
+    """Returns (a, b, c) of the line through `p` and `q`, so that ax + by + cw is above 0 on its left and 0 on it."""
     return p[1] * q[2] - p[2] * q[1], p[2] * q[0] - p[0] * q[2], p[0] * q[1] - p[1] * q[0]
 
 
 def turn(p: Point, q: Point, r: Point) -> int:
-    """Above 0 where `r` is on the left of the way from `p` to `q`, 0 where it is on its line."""
+    """Returns above 0 where `r` is on the left of the way from `p` to `q`, 0 where it is on its line."""
     a, b, c = line_of(p, q)
     return a * r[0] + b * r[1] + c * r[2]
 
 
 def way(p: Point, q: Point) -> Vector:
-    """The direction from `p` to `q`."""
+    """Returns the direction from `p` to `q`."""
     return q[0] * p[2] - p[0] * q[2], q[1] * p[2] - p[1] * q[2]
 
 
@@ -48,7 +48,7 @@ def cross(u: Vector, v: Vector) -> int:
 
 
 def is_convex(ring: Ring) -> bool:
-    """Whether `ring` goes round a convex area once, counterclockwise, with a corner at each of its points."""
+    """Returns whether `ring` goes round a convex area once, counterclockwise, with a corner at each of its points."""
     ways = [way(p, q) for p, q in edges(ring)]
     upper = [y > 0 or y == 0 and x > 0 for x, y in ways]
     rounds = sum(after and not before for before, after in edges(upper))
@@ -58,14 +58,14 @@ def is_convex(ring: Ring) -> bool:
 # ---- areas made apart
 
 def cut(polygon: Ring, p: Point, q: Point, sign: int) -> Ring:
-    """What a convex `polygon` has on the left of the way from `p` to `q` (`sign` 1), or on the right of it (-1)."""
+    """Returns what a convex `polygon` has on the left of the way from `p` to `q` (`sign` 1), or on the right of it (-1)."""
     a, b, c = line_of(p, q)
     values = [sign * (a * x + b * y + c * w) for x, y, w in polygon]
     return [] if max(values) <= 0 else polygon if min(values) >= 0 else clipped(polygon, values)
 
 
 def minus(polygon: Ring, other: Ring) -> list[Ring]:
-    """What is left of a convex `polygon` outside the convex `other`: convex polygons that share no area."""
+    """Returns what is left of a convex `polygon` outside the convex `other`: convex polygons that share no area."""
     left, inside = [], polygon
     for p, q in edges(other):
         outside = cut(inside, p, q, -1)
@@ -78,7 +78,7 @@ def minus(polygon: Ring, other: Ring) -> list[Ring]:
 
 
 def without(polygons: Iterable[Ring], others: Iterable[tuple[Ring, Box]]) -> list[Ring]:
-    """What is left of convex `polygons` outside `others`, which are convex polygons each with its box."""
+    """Returns what is left of convex `polygons` outside `others`, which are convex polygons each with its box."""
     left = [(polygon, box_of(polygon)) for polygon in polygons]
     for other, box in others:
         left = [(piece, its if piece is polygon else box_of(piece)) for polygon, its in left
@@ -87,7 +87,7 @@ def without(polygons: Iterable[Ring], others: Iterable[tuple[Ring, Box]]) -> lis
 
 
 def apart(polygons: Iterable[Ring]) -> list[Ring]:
-    """Convex polygons that share no area and have together what the convex `polygons` have."""
+    """Returns convex polygons that share no area and have together what the convex `polygons` have."""
     found: list[tuple[Ring, Box]] = []
     for polygon in polygons:
         found += [(piece, box_of(piece)) for piece in without([polygon], list(found))]
@@ -97,7 +97,7 @@ def apart(polygons: Iterable[Ring]) -> list[Ring]:
 # ---- from polygons to edges
 
 def outer_edges(polygons: Iterable[Ring]) -> Iterator[Edge]:
-    """The edges of `polygons`, which share no area, where no edge of another one runs the other way. No two cross."""
+    """Yields the edges of `polygons`, which share no area, where no edge of another one runs the other way. No two cross."""
     lines: defaultdict[Point, Counter[Point]] = defaultdict(Counter)
     for polygon in polygons:
         for p, q in edges(polygon):
@@ -116,7 +116,7 @@ def outer_edges(polygons: Iterable[Ring]) -> Iterator[Edge]:
 
 
 def divided(given: list[Edge]) -> Iterator[Edge]:
-    """The `given` edges, each divided where another one ends on it."""
+    """Yields the `given` edges, each divided where another one ends on it."""
     ends = sorted({(ratio(point[0], point[2]), point) for edge in given for point in edge})
     places = [x for x, _ in ends]
     for p, q in given:
@@ -131,7 +131,7 @@ def divided(given: list[Edge]) -> Iterator[Edge]:
 # ---- from edges to rings
 
 def sharpest_left(before: Point, at: Point, ends: list[Point]) -> Point:
-    """The one of `ends` to which the way from `before` over `at` turns most to the left."""
+    """Returns the one of `ends` to which the way from `before` over `at` turns most to the left."""
     back = way(at, before)
 
     def quarter(u: Vector) -> int:
@@ -146,7 +146,7 @@ def sharpest_left(before: Point, at: Point, ends: list[Point]) -> Point:
 
 
 def walk(ways: dict[Point, list[Point]], start: Point) -> list[Point]:
-    """A closed way from `start` back to it, along edges that are taken out of `ways`."""
+    """Returns a closed way from `start` back to it, along edges that are taken out of `ways`."""
     path = [start]
     while ways[path[-1]]:
         ends = ways[path[-1]]
@@ -157,7 +157,7 @@ def walk(ways: dict[Point, list[Point]], start: Point) -> list[Point]:
 
 
 def loops(path: list[Point]) -> Iterator[Ring]:
-    """The rings of which a closed `path` is made: none goes through a point twice."""
+    """Yields the rings of which a closed `path` is made: none goes through a point twice."""
     open_: Ring = []
     places: dict[Point, int] = {}
     for point in path:
@@ -173,12 +173,12 @@ def loops(path: list[Point]) -> Iterator[Ring]:
 
 
 def straightened(ring: Ring) -> Ring:
-    """The `ring` without the corners at which it goes straight on."""
+    """Returns the `ring` without the corners at which it goes straight on."""
     return [at for before, at, after in zip(ring[-1:] + ring[:-1], ring, ring[1:] + ring[:1]) if turn(before, at, after)]
 
 
 def rings_of(given: Iterable[Edge]) -> Iterator[Ring]:
-    """The rings along the `given` edges, which meet in their ends alone."""
+    """Yields the rings along the `given` edges, which meet in their ends alone."""
     ways: defaultdict[Point, list[Point]] = defaultdict(list)
     for p, q in given:
         ways[p].append(q)
@@ -190,7 +190,7 @@ def rings_of(given: Iterable[Edge]) -> Iterator[Ring]:
 # ---- from rings to outlines
 
 def holds(ring: Ring, point: Point) -> int:
-    """1 where a `point` is inside a `ring`, 0 where it is on it, -1 where it is outside."""
+    """Returns 1 where a `point` is inside a `ring`, 0 where it is on it, -1 where it is outside."""
     odd = False
     for p, q in edges(ring):
         if p[1] * q[2] > q[1] * p[2]:
@@ -206,7 +206,7 @@ def holds(ring: Ring, point: Point) -> int:
 
 
 def surrounds(outer: Ring, hole: Ring) -> bool:
-    """Whether `outer` goes round a `hole` that shares no more than points with it."""
+    """Returns whether `outer` goes round a `hole` that shares no more than points with it."""
     for p, q in edges(hole):
         middle = lowest((p[0] * q[2] + q[0] * p[2], p[1] * q[2] + q[1] * p[2], 2 * p[2] * q[2]))
         for point in (p, middle):
@@ -217,7 +217,7 @@ def surrounds(outer: Ring, hole: Ring) -> bool:
 
 
 def outlines(polygons: list[Ring]) -> list[Outline]:
-    """Of convex `polygons` that share no area: each outer ring, and a list of the holes in it. The smallest one comes first."""
+    """Returns of convex `polygons` that share no area: each outer ring, and a list of the holes in it. The smallest one comes first."""
     if len(polygons) == 1:
         return [(list(polygons[0]), [])]
     sized = [(area(ring), ring) for ring in rings_of(divided(list(outer_edges(polygons))))]
@@ -229,12 +229,12 @@ def outlines(polygons: list[Ring]) -> list[Outline]:
 
 
 def middle(polygon: Ring) -> Point:
-    """The average of the corners of a convex `polygon`, which is inside of it."""
+    """Returns the average of the corners of a convex `polygon`, which is inside of it."""
     x, y = (Fraction(sum(ratio(point[axis], point[2]) for point in polygon)) / len(polygon) for axis in (0, 1))
     return lowest((x.numerator * y.denominator, y.numerator * x.denominator, x.denominator * y.denominator))
 
 
 def is_of(polygon: Ring, outer: Ring, holes: list[Ring]) -> bool:
-    """Whether a convex `polygon` of an area is in the piece of the area that `outer` and `holes` go round."""
+    """Returns whether a convex `polygon` of an area is in the piece of the area that `outer` and `holes` go round."""
     at = middle(polygon)
     return holds(outer, at) > 0 and not any(holds(hole, at) > 0 for hole in holes)

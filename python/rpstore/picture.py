@@ -43,13 +43,13 @@ class Frame(NamedTuple):
     scale: Fraction
 
     def place(self, point: Point) -> tuple[int, int]:
-        """The place of a point of the plan, from the upper left corner, rounded to the nearest."""
+        """Returns the place of a point of the plan, from the upper left corner, rounded to the nearest."""
         x, y = ratio(point[0], point[2]), ratio(point[1], point[2])
         return told.nearest((x - self.west) * self.scale), told.nearest((self.north - y) * self.scale)
 
 
 def label_of(each: Slice) -> str:
-    """The lot or the name, or else the number of the line."""
+    """Returns the lot or the name, or else the number of the line."""
     return each.label if " " not in each.label else f"line {each.number}"
 
 
@@ -58,7 +58,7 @@ def boxes_of(shown: list[Slice]) -> list[Box]:
 
 
 def coloured(shown: list[Slice]) -> dict[str, str]:
-    """A colour for each label of what is `shown`, the same in all drawings, so that what touches has different ones."""
+    """Returns a colour for each label of what is `shown`, the same in all drawings, so that what touches has different ones."""
     places = {label: place for place, label in enumerate(dict.fromkeys(map(label_of, shown)))}
     levels, pairs = defaultdict(list), {}
     for each, box in zip(shown, boxes_of(shown)):
@@ -73,8 +73,8 @@ def coloured(shown: list[Slice]) -> dict[str, str]:
 
 
 def columns_of(count: int, width: int, tallness: Fraction) -> int:
-    """In how many columns `count` drawings stand on a page of this `width`: so many that it is about three quarters as tall. A
-    drawing is `tallness` times as tall as wide."""
+    """Returns in how many columns `count` drawings stand on a page of this `width`: so many that it is about three
+    quarters as tall. A drawing is `tallness` times as tall as wide."""
     def far(columns: int) -> float:
         tall = ceil(count / columns) * ((width / columns - GAP) * tallness + HEAD + GAP)
         return abs(log(tall / (0.75 * width)))
@@ -83,7 +83,7 @@ def columns_of(count: int, width: int, tallness: Fraction) -> int:
 
 
 def frame_of(shown: list[Slice], count: int, width: int) -> tuple[Frame, int]:
-    """The frame of `count` drawings on a page of this `width`, and in how many columns they stand."""
+    """Returns the frame of `count` drawings on a page of this `width`, and in how many columns they stand."""
     (west, south), (east, north) = box_round(boxes_of(shown))
     across, up = Fraction(east - west), Fraction(north - south)
     columns = columns_of(count, width, min(up / across, Fraction(TALLEST)))
@@ -124,18 +124,18 @@ class Legend(NamedTuple):
 
     @property
     def entries(self) -> list[tuple[str, str]]:
-        """The text and the label of each line that has a colour."""
+        """Returns the text and the label of each line that has a colour."""
         found = [(f"{number}: {label}", label) for number, label in enumerate(self.numbered, 1)]
         return found + [(label, label) for label in self.others if len(self.others) <= MOST_OTHER]
 
     @property
     def end(self) -> str:
-        """What stands under the lines, or nothing."""
+        """Returns what stands under the lines, or nothing."""
         return f"{len(self.others)} more, for whose names a wider picture has room" if len(self.others) > MOST_OTHER else ""
 
 
 def named(drawings: list[list[Area]]) -> tuple[list[Names], Legend]:
-    """The words in all `drawings`, and what the legend has: where there is no room for a name a number stands in its place."""
+    """Returns the words in all `drawings`, and what the legend has: where there is no room for a name a number stands in its place."""
     placed, lacking, legend = [Names(areas) for areas in drawings], defaultdict(list), Legend([], [])
     for names in placed:
         for area in names.areas:
@@ -155,13 +155,13 @@ def text(x: float, y: float, size: int, word: str, more: str = "") -> str:
 
 
 def path_of(area: Area) -> str:
-    """The path of an area, which says its label where the hand is."""
+    """Returns the path of an area, which says its label where the hand is."""
     steps = "".join("M" + " ".join(f"{x} {y}" for x, y in ring) + "Z" for piece in area.pieces for ring in piece)
     return f'<path fill="{area.colour}" d="{steps}"><title>{html.escape(area.label)}</title></path>\n'
 
 
 def drawing(left: int, top: int, frame: Frame, head: str, names: Names) -> Iterator[str]:
-    """One drawing at a place of the page, under its `head`."""
+    """Yields one drawing at a place of the page, under its `head`."""
     yield f'<g transform="translate({left} {top})">\n' + text(0, 17 * PIXEL, 15 * PIXEL, head)
     yield f'<g transform="translate(0 {HEAD})">\n<rect width="{frame.width}" height="{frame.height}" fill="#f6f8fa"/>\n'
     yield '<g stroke="#22303c" stroke-width="90" stroke-linejoin="round" fill-rule="evenodd" fill-opacity="0.85">\n'
@@ -172,7 +172,7 @@ def drawing(left: int, top: int, frame: Frame, head: str, names: Names) -> Itera
 
 
 def round_length(most: Fraction) -> int:
-    """The greatest of 1, 2, 5, 10, 20, .. units that is not above `most`, or 1."""
+    """Returns the greatest of 1, 2, 5, 10, 20, .. units that is not above `most`, or 1."""
     found = 1
     for place in range(1, 40):
         length = (1, 2, 5)[place % 3] * 10 ** (place // 3)
@@ -181,7 +181,7 @@ def round_length(most: Fraction) -> int:
 
 
 def furniture(frame: Frame, width: int, top: int, version: int) -> str:
-    """The bar of the scale and the needle, at the right of a page under `top`."""
+    """Returns the bar of the scale and the needle, at the right of a page under `top`."""
     length = round_length(frame.width / frame.scale / 4)
     right, long = width - GAP - 30 * PIXEL, round(length * frame.scale)
     needle, y = width - GAP - 8 * PIXEL, top + 20 * PIXEL
@@ -192,7 +192,7 @@ def furniture(frame: Frame, width: int, top: int, version: int) -> str:
 
 
 def legend_lines(legend: Legend, found: dict[str, str], top: int, columns: int) -> Iterator[str]:
-    """The legend, in so many `columns` under `top`."""
+    """Yields the legend, in so many `columns` under `top`."""
     rows = ceil(len(legend.entries) / columns)
     for place, (said, label) in enumerate(legend.entries):
         x, y = GAP + place // rows * COLUMN, top + place % rows * ROW
@@ -203,7 +203,7 @@ def legend_lines(legend: Legend, found: dict[str, str], top: int, columns: int) 
 
 
 def areas_of(shown: list[Slice], frame: Frame, found: dict[str, str]) -> dict[int, list[Area]]:
-    """What is shown at each height, from the lowest to the highest; of a region that two lines show at one height the last."""
+    """Returns what is shown at each height, from the lowest to the highest; of a region that two lines show at one height the last."""
     levels: dict[int, dict[str, Area]] = {height: {} for height in sorted({each.height for each in shown})}
     for each in shown:
         pieces = [[[frame.place(point) for point in ring] for ring in (outer, *holes)] for outer, holes in reversed(each.outlines)]
@@ -212,7 +212,7 @@ def areas_of(shown: list[Slice], frame: Frame, found: dict[str, str]) -> dict[in
 
 
 def drawn(seen: Seen) -> list[Slice]:
-    """The slices that are drawn: those that have something, and where there are such those that reach no side of the domain."""
+    """Returns the slices that are drawn: those that have something, and where there are such those that reach no side of the domain."""
     there = [each for each in seen.slices if each.rings]
     if not there:
         raise Fault("the report has no line `section` that shows something", 1, "add a line to the script, as `section lot X 1.500`, which cuts the lot X at 1.5 m")
@@ -220,7 +220,7 @@ def drawn(seen: Seen) -> list[Slice]:
 
 
 def picture(seen: Seen, width: int = WIDTH) -> str:
-    """The picture of what was read, so many pixels wide."""
+    """Returns the picture of what was read, so many pixels wide."""
     shown, wide = drawn(seen), width * PIXEL
     found, count = coloured(shown), len({each.height for each in shown})
     frame, columns = frame_of(shown, count, wide)
@@ -241,7 +241,7 @@ def picture(seen: Seen, width: int = WIDTH) -> str:
 
 
 def summary(seen: Seen) -> str:
-    """What was drawn, and what was not."""
+    """Returns what was drawn, and what was not."""
     shown, empty = drawn(seen), sum(not each.rings for each in seen.slices)
     far = len(seen.slices) - len(shown) - empty
     heights = len({each.height for each in shown})

@@ -78,7 +78,7 @@ class Feature:
         return f"feature {self.number}" + (f", {self.id}" if self.id else "")
 
     def attempt(self, ask: Callable[..., Any], *given: Any) -> Any:
-        """What a function gives, or nothing where it finds a cause why the feature cannot be registered."""
+        """Returns what a function gives, or nothing where it finds a cause why the feature cannot be registered."""
         try:
             return ask(self, *given)
         except Unfit as unfit:
@@ -89,7 +89,7 @@ class Feature:
 # ---- ids and heights
 
 def value_of(feature: Feature, word: str, what: str) -> Any:
-    """The property that a word names."""
+    """Returns the property that a word names."""
     value = feature.properties.get(word)
     if value is None or value == "":
         there = "is empty" if word in feature.properties else f"is not there; the properties are {', '.join(feature.properties) or 'none'}"
@@ -98,7 +98,7 @@ def value_of(feature: Feature, word: str, what: str) -> Any:
 
 
 def number_of(feature: Feature, word: str, what: str) -> Decimal:
-    """A number: the word itself where it is one, else the property that it names."""
+    """Returns a number: the word itself where it is one, else the property that it names."""
     value = word if NUMBER.fullmatch(word) else value_of(feature, word, what)
     if isinstance(value, bool) or not NUMBER.fullmatch(str(value)):
         raise Unfit(f"the {what} is no number", ascii(value)[:60], "write metres as 3.50")
@@ -106,7 +106,7 @@ def number_of(feature: Feature, word: str, what: str) -> Decimal:
 
 
 def height_of(feature: Feature, word: str, what: str) -> int:
-    """A height in units."""
+    """Returns a height in units."""
     value = number_of(feature, word, what)
     if abs(value) > rings.MOST_SIDE // 1000 + 1 or abs(units(value)) > rings.MOST_SIDE:
         raise Unfit(f"the {what} is more than {spelled(rings.MOST_SIDE)} m from 0", str(value), "correct it: heights are in metres")
@@ -114,7 +114,7 @@ def height_of(feature: Feature, word: str, what: str) -> int:
 
 
 def count_of(feature: Feature, word: str) -> int:
-    """How many storeys a feature has."""
+    """Returns how many storeys a feature has."""
     value = number_of(feature, word, "count of storeys")
     if value not in range(1, MOST_STOREYS + 1):
         raise Unfit(f"the count of storeys is no whole number from 1 to {MOST_STOREYS}", str(value), "correct it")
@@ -122,7 +122,7 @@ def count_of(feature: Feature, word: str) -> int:
 
 
 def heights_of(feature: Feature, options: Options) -> list[Optional[int]]:
-    """The heights between which the lots of a feature lie, from below: two, or with storeys one more than these."""
+    """Returns the heights between which the lots of a feature lie, from below: two, or with storeys one more than these."""
     floor = feature.attempt(height_of, options.floor, "floor")
     if options.storeys is None:
         return [floor, feature.attempt(height_of, options.top, "top")]
@@ -138,7 +138,7 @@ def check_heights(_: Feature, heights: list[int]) -> None:
 
 
 def id_of(feature: Feature, options: Options) -> str:
-    """The id of the lot of a feature, or the beginning of those of its storeys."""
+    """Returns the id of the lot of a feature, or the beginning of those of its storeys."""
     value = feature.number if options.number else value_of(feature, options.id, "id")
     told = str(int(value)) if isinstance(value, float) and value.is_integer() else str(value)
     told = options.prefix + told.replace("/", "_") if options.prefix else told
@@ -151,7 +151,7 @@ def id_of(feature: Feature, options: Options) -> str:
 # ---- polygons
 
 def polygons_of(_: Feature, geometry: Optional[dict[str, Any]]) -> list[list[grid.Ring]]:
-    """The polygons of a geometry, each a list of rings: the outer one, and then its holes. A closed line of a drawing is one."""
+    """Returns the polygons of a geometry, each a list of rings: the outer one, and then its holes. A closed line of a drawing is one."""
     geometry = geometry or {"type": "none at all"}
     kind = geometry["type"]
     if kind == "Polygon":
@@ -175,13 +175,13 @@ def ring_name(polygon: int, ring: int, count: int) -> str:
 
 
 def crossing(corners: list[Corner]) -> str:
-    """Where a ring crosses or touches itself, or nothing. Its corners are whole numbers, of which this test is exact."""
+    """Returns where a ring crosses or touches itself, or nothing. Its corners are integers, of which this test is exact."""
     said = explain_validity(Polygon(corners))
     return "" if said == "Valid Geometry" else " ".join(spelled(round(float(number))) for number in re.findall(r"-?[0-9.]+", said)[-2:])
 
 
 def placed(feature: Feature, origin: Corner) -> list[list[list[Corner]]]:
-    """The polygons of a feature in units from the origin."""
+    """Returns the polygons of a feature in units from the origin."""
     found: list[list[list[Corner]]] = []
     for number, polygon in enumerate(feature.polygons, 1):
         found.append([])
@@ -209,7 +209,7 @@ def register_line(_: Feature, name: str, polygons: list[list[list[Corner]]], hei
 
 
 def note(feature: Feature) -> list[str]:
-    """The attributes of a feature, as a note that is JSON."""
+    """Returns the attributes of a feature, as a note that is JSON."""
     told = {name: value for name, value in feature.properties.items() if value is not None}
     line = f"# {json.dumps(told, default=str)}"
     return [line] if told and len(line) <= LONG[2] else []
@@ -220,7 +220,7 @@ Lots = dict[str, tuple[int, int, str]]
 
 
 def lots_of(feature: Feature, origin: Corner, options: Options) -> Lots:
-    """The lots of a feature by their ids: the heights of each, and its line."""
+    """Returns the lots of a feature by their ids: the heights of each, and its line."""
     feature.id = feature.attempt(id_of, options) or ""
     heights = heights_of(feature, options)
     known = [height for height in heights if height is not None]
@@ -235,7 +235,7 @@ def lots_of(feature: Feature, origin: Corner, options: Options) -> Lots:
 
 
 def lots_of_all(features: list[Feature], origin: Corner, options: Options) -> list[Lots]:
-    """The lots of each feature; none of one that cannot be registered, or that has the id of a feature before."""
+    """Returns the lots of each feature; none of one that cannot be registered, or that has the id of a feature before."""
     found: list[Lots] = []
     ids: dict[str, int] = {}
     for feature in features:
@@ -259,7 +259,7 @@ def see_limits(features: list[Feature], made: list[Lots], program: str) -> usage
 
 
 def lines_of(features: list[Feature], made: list[Lots], options: Options) -> list[str]:
-    """The lines of the script after its head."""
+    """Returns the lines of the script after its head."""
     lines, sections = [], []
     for feature, lots in zip(features, made):
         if feature.unfit:
@@ -273,7 +273,7 @@ def lines_of(features: list[Feature], made: list[Lots], options: Options) -> lis
 
 
 def grouped(said: list[tuple[Feature, Unfit]], count: int) -> Iterator[str]:
-    """One line for each cause, with the first features that have it, but for one that all have and that is the same of all."""
+    """Yields one line for each cause, with the first features that have it, except one that all have and that is the same of all."""
     causes: dict[str, dict[str, str]] = defaultdict(dict)
     for feature, unfit in said:
         causes[unfit.advice].setdefault(feature.said, unfit.seen)
@@ -322,7 +322,7 @@ def points_of(features: list[Feature]) -> list[grid.Point]:
 
 
 def read(path: str, layer: Optional[str]) -> tuple[str, list[Feature], list[str]]:
-    """The grid that a plan names, its features, and what is to be said of it."""
+    """Returns the grid that a plan names, its features, and what is to be said of it."""
     logging.getLogger("fiona").setLevel(logging.CRITICAL)
     for driver in MORE_FORMATS:
         fiona.drvsupport.supported_drivers.setdefault(driver, "r")
@@ -352,8 +352,8 @@ def to_register(features: list[Feature], given: str, options: Options) -> tuple[
 
 
 def about_limits(features: list[Feature], made: list[Lots], forms: Optional[usage.Forms], size: int) -> list[str]:
-    """What is to be said of the limits of the store: of a script with a `size` in bytes and with the lots `made` of features that have
-    these `forms`.
+    """Returns what is to be said of the limits of the store: of a script with a `size` in bytes and with the lots
+    `made` of features that have these `forms`.
 
     # Errors
     `Fault` if no register has room for them.
@@ -368,7 +368,7 @@ def about_limits(features: list[Feature], made: list[Lots], forms: Optional[usag
 
 
 def script_of(path: str, options: Options) -> tuple[int, str, list[str]]:
-    """The status, the script, and the lines on standard error."""
+    """Returns the status, the script, and the lines on standard error."""
     if MISSING:
         raise Fault(f"{MISSING}, and plan needs this package", 5, INSTALL)
     given, features, said = read(path, options.layer)

@@ -71,7 +71,7 @@ def normal(ring: Ring) -> tuple[Number, ...]:
 
 
 def whole(given: Sequence[Number]) -> tuple[int, ...]:
-    """Returns whole numbers in lowest terms that have the same ratios as the `given` ones."""
+    """Returns integers in lowest terms that have the same ratios as the `given` ones."""
     scale = lcm(*(Fraction(number).denominator for number in given))
     return lowest([int(number * scale) for number in given])
 
@@ -109,7 +109,7 @@ def sloping(corners: Sequence[Point]) -> Iterator[Half]:
 
 
 def nearest(number: Fraction) -> int:
-    """Returns the nearest whole number, a half away from zero."""
+    """Returns the nearest integer, a half away from zero."""
     size = int(2 * abs(number) + 1) // 2
     return size if number >= 0 else -size
 

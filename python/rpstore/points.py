@@ -18,30 +18,30 @@ Item = TypeVar("Item")
 
 
 def lowest(numbers: Sequence[int]) -> Point:
-    """The `numbers` divided by their greatest common divisor."""
+    """Returns the `numbers` divided by their greatest common divisor."""
     divisor = gcd(*numbers)
     return tuple(number // divisor for number in numbers) if divisor > 1 else tuple(numbers)
 
 
 def ratio(number: int, divisor: int) -> Number:
-    """The exact quotient of `number` and `divisor`: with whole numbers Python is ten times as fast as with fractions."""
+    """Returns the exact quotient of `number` and `divisor`: with integers Python is ten times as fast as with fractions."""
     return number if divisor == 1 else Fraction(number, divisor)
 
 
 def edges(ring: Sequence[Item]) -> Iterator[tuple[Item, Item]]:
-    """Each corner of `ring` with the next one."""
+    """Returns each corner of `ring` with the next one."""
     return zip(ring, [*ring[1:], *ring[:1]])
 
 
 def between(p: Point, q: Point, at_p: int, at_q: int) -> Point:
-    """The point of the edge from `p` to `q` at which a linear number is 0 that is `at_p` and `at_q`, of two signs, at its ends."""
+    """Returns the point of the edge from `p` to `q` at which a linear number is 0 that is `at_p` and `at_q`, of two signs, at its ends."""
     if at_p < 0:
         at_p, at_q = -at_p, -at_q
     return lowest([at_p * b - at_q * a for a, b in zip(p, q)])
 
 
 def clipped(polygon: Ring, values: Sequence[int]) -> Ring:
-    """What the convex `polygon` has where a linear number is not below 0 that has these `values` at its corners."""
+    """Returns what the convex `polygon` has where a linear number is not below 0 that has these `values` at its corners."""
     kept = []
     for (p, q), (at, after) in zip(edges(polygon), edges(list(values))):
         if at >= 0:
@@ -52,18 +52,18 @@ def clipped(polygon: Ring, values: Sequence[int]) -> Ring:
 
 
 def box_of(points: Sequence[Point]) -> Box:
-    """The box round `points`."""
+    """Returns the box round `points`."""
     axes = [[ratio(point[axis], point[-1]) for point in points] for axis in range(len(points[0]) - 1)]
     return tuple(map(min, axes)), tuple(map(max, axes))
 
 
 def box_round(boxes: Iterable[Box]) -> Box:
-    """The box round `boxes`, of which there is one at least."""
+    """Returns the box round `boxes`, of which there is one at least."""
     lows, highs = zip(*boxes)
     return tuple(map(min, zip(*lows))), tuple(map(max, zip(*highs)))
 
 
 def overlap(one: Box, other: Box) -> bool:
-    """Whether two boxes have more in common than a boundary."""
+    """Returns whether two boxes have more in common than a boundary."""
     (low, high), (least, most) = one, other
     return all(a < d and c < b for a, b, c, d in zip(low, high, least, most))

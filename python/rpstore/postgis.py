@@ -100,7 +100,7 @@ def lot_line(place: Place, row: Row) -> str:
 
 
 def rows_of(seen: Seen, found: Optional[Times]) -> list[Row]:
-    """Returns the lots that are shown; their days if all lots that ever were are `found`.
+    """Returns the lots that are shown; their days if all lots that ever existed are `found`.
 
     # Errors
     `Fault` if no lot is shown.

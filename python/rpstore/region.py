@@ -64,7 +64,7 @@ def see_expression(expression: str, version: int) -> None:
 
 
 def see_region(let: report.Answer, empty: report.Answer, expression: str) -> None:
-    """Sees that the store took a region, and that it has a point.
+    """Checks that the store took a region, and that it has a point.
 
     # Errors
     `Fault` if one of the two is not so.
@@ -111,7 +111,7 @@ class Answers:
         return [layer for layer in region.probes if layer not in self.unshown(region) and self.is_refused(region.neighbours(layer))]
 
     def beside(self, region: Region) -> set[str]:
-        """Returns the ids of the lots that only touch the region, as far as no limit is met."""
+        """Returns the ids of the lots that only touch the region, as far as no limit is reached."""
         asked = [self.told[region.neighbours(layer)].verdict for layer in region.probes]
         return {lot for verdict in asked if not isinstance(verdict, report.Refused) for lot in verdict}
 

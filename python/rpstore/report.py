@@ -101,7 +101,7 @@ class Answer:
 
 
 def tuples(line: bytes) -> tuple[tuple[int, ...], ...]:
-    """The numbers of a `line`, bracket by bracket."""
+    """Returns the numbers of a `line`, bracket by bracket."""
     return tuple(tuple(map(int, numbers.split())) for numbers in NUMBERS.findall(line))
 
 
@@ -123,11 +123,11 @@ class Lines:
         return line
 
     def begins(self, front: bytes) -> bool:
-        """Whether there is a next line, which begins with `front`."""
+        """Returns whether there is a next line, which begins with `front`."""
         return self.next is not None and self.next.startswith(front)
 
     def wrong(self, said: str) -> NoReturn:
-        """The next line cannot stand there."""
+        """Returns the next line cannot stand there."""
         raise Fault(f"line {self.number + 1} of the report: {said}", 1, AGAIN)
 
     def due(self, pattern: re.Pattern[bytes], what: str) -> re.Match[bytes]:
@@ -145,13 +145,13 @@ SHAPES = {"X": NAME.decode(), "n": ONE.decode()}
 
 
 def fits(cause: str, told: list[str]) -> bool:
-    """Whether a refusal is one of `cause`, in which X stands for a name and n for a number."""
+    """Returns whether a refusal is one of `cause`, in which X stands for a name and n for a number."""
     shapes = [SHAPES.get(each, each) for each in cause.split()]
     return len(shapes) == len(told) and all(map(re.fullmatch, shapes, told))
 
 
 def refused(lines: Lines, parsed: Optional[command.Command], fault: str) -> Refused:
-    """The refusal of a line that has a command, `parsed`, or a `fault`."""
+    """Returns the refusal of a line that has a command, `parsed`, or a `fault`."""
     told = (lines.next or b"")[len(b"= refused "):].decode("utf-8", "replace").split(" ")
     word = parsed.word if parsed else ""
     may = [fault] if fault else CAUSES.get(word, "").split("|")
@@ -164,13 +164,13 @@ def refused(lines: Lines, parsed: Optional[command.Command], fault: str) -> Refu
 
 
 def counted(lines: Lines, word: bytes, item: re.Pattern[bytes], what: str) -> Iterator[re.Match[bytes]]:
-    """`= word k` and then k lines, each of the form of an item."""
+    """Returns `= word k` and then k lines, each of the form of an item."""
     found = lines.due(re.compile(b"= " + word + rb" (0|" + ONE + rb")"), f"the line `= {word.decode()}` with a number")
     return (lines.due(item, what) for _ in range(int(found[1])))
 
 
 def slices(lines: Lines) -> tuple[Optional[tuple[tuple[int, ...], ...]], ...]:
-    """For each part the corners of its ring, which go round it once, or None where it is flat."""
+    """Returns for each part the corners of its ring, which go round it once, or None if it is flat."""
     rings = []
     for found in counted(lines, b"sections", SLICE, "a line that shows a slice"):
         ring = tuples(found[0])[1::2] if found[0].startswith(b"= ring") else None
@@ -186,7 +186,7 @@ def lot_lines(lines: Lines, word: bytes) -> tuple[Lot, ...]:
 
 
 def accepted(lines: Lines, parsed: command.Command) -> Any:
-    """The verdict of a command that was not refused."""
+    """Returns the verdict of a command that was not refused."""
     word = parsed.word
 
     def one_of(*words: bytes) -> str:
@@ -221,7 +221,7 @@ def accepted(lines: Lines, parsed: command.Command) -> Any:
 
 
 def echoed(lines: Lines, version: int, last: int) -> tuple[int, Optional[str], Optional[command.Command], str]:
-    """The number and the text of an echo, which stands behind that of the line `last`; and its command, or its fault."""
+    """Returns the number and the text of an echo, which stands after that of the line `last`; and its command, or its fault."""
     found = ECHO.fullmatch(lines.next or b"")
     if not found:
         lines.wrong("an echo, `> ` and a number, is due here")
@@ -241,7 +241,7 @@ def echoed(lines: Lines, version: int, last: int) -> tuple[int, Optional[str], O
 
 
 def answer(lines: Lines, version: int, last: int) -> Answer:
-    """The answer that begins with the next line, behind the one of the line `last` of a script."""
+    """Returns the answer that begins with the next line, after the one of the line `last` of a script."""
     at = lines.number + 1
     number, text, parsed, fault = echoed(lines, version, last)
     proof = []
@@ -258,7 +258,7 @@ def answer(lines: Lines, version: int, last: int) -> Answer:
 
 
 def read(file: BinaryIO) -> Iterator[Answer]:
-    """The answers of a report, one after the other."""
+    """Yields the answers of a report, one after the other."""
     lines = Lines(file)
     version, last = 1, 0
     if lines.next == b"> 0 rp 2":

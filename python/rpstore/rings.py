@@ -25,24 +25,25 @@ class Unfit(Exception):
 
 
 def units(number: Number) -> int:
-    """The nearest whole number of thousandths of a number as it is written; a half goes away from zero."""
+    """Returns the nearest integer of thousandths of a number as it is written; a half goes away from zero."""
     number = number if isinstance(number, Decimal) else Decimal(repr(number))
     return int(number.quantize(MILLI, ROUND_HALF_UP).scaleb(3))
 
 
 def rounded(points: Iterable[Sequence[float]]) -> tuple[int, int]:
-    """Returns how many coordinates of `points` are no whole number of thousandths, and how many there are."""
+    """Returns how many coordinates of `points` are no integer of thousandths, and how many there are."""
     numbers = [Decimal(repr(number)) for point in points for number in point]
     return sum(number != number.quantize(MILLI) for number in numbers), len(numbers)
 
 
 def side(a: Corner, b: Corner, c: Corner) -> int:
-    """Above 0 where the way from a over b to c turns left, and 0 where it goes straight on or back."""
+    """Returns above 0 where the way from a over b to c turns left, and 0 where it goes straight on or back."""
     return (b[0] - a[0]) * (c[1] - a[1]) - (b[1] - a[1]) * (c[0] - a[0])
 
 
 def placed(ring: Sequence[Sequence[Number]], origin: Corner, name: str) -> list[Corner]:
-    """The corners of a ring in units from an origin, without its last point and without those that repeat the one before."""
+    """Returns the corners of a ring in units from an origin, without its last point and without corners that repeat
+    the previous corner."""
     if ring[0] != ring[-1]:
         raise Unfit("a ring is open: it does not end with the point at which it begins", name, "end it with this point")
     corners: list[Corner] = []
@@ -61,14 +62,14 @@ def placed(ring: Sequence[Sequence[Number]], origin: Corner, name: str) -> list[
 
 
 def without_runs(ring: list[Corner], is_far: Callable[[Corner], bool]) -> list[Corner]:
-    """The ring without the corners that are far and have far ones before and behind them. Edges between far corners do
-    not come near, so what is near has as many edges above it as before."""
+    """Returns the ring without the corners that are far and have far ones before and after them. Edges between far
+    corners do not come near, so what is near has as many edges above it as before."""
     return [at for before, at, after in zip(ring[-1:] + ring[:-1], ring, ring[1:] + ring[:1])
             if not (is_far(before) and is_far(at) and is_far(after))]
 
 
 def slabs(ring: list[Corner], low: int = -MOST_SIDE, high: int = MOST_SIDE) -> list[tuple[int, int, list[Corner]]]:
-    """The ring as one that tells the members from x = low to below x = high, or cut further where it has too many corners."""
+    """Returns the ring as one that tells the members from x = low to below x = high, or cut further where it has too many corners."""
     ring = without_runs(without_runs(ring, lambda at: at[0] <= low), lambda at: at[0] >= high)
     if len(ring) <= MOST_CORNERS:
         return [(low, high, ring)] if len(ring) > 2 else []
@@ -85,7 +86,7 @@ def joined(word: str, operands: list[str]) -> str:
 
 
 def prism(ring: list[Corner], heights: tuple[int, int]) -> str:
-    """The members of a ring between two heights: a prism, or prisms in slabs, which have exactly the same points."""
+    """Returns the members of a ring between two heights: a prism, or prisms in slabs, which have exactly the same points."""
     pieces = []
     for low, high, corners in slabs(ring):
         numbers = " ".join(f"{spelled(x)} {spelled(y)}" for x, y in corners)

@@ -15,7 +15,7 @@ WORD = re.compile(report.NAME)
 
 
 def fresh(word: str, names: set[str]) -> str:
-    """Returns `word`, or else the first of `word`-2, `word`-3 .. that is none of `names`, and adds it to them."""
+    """Returns `word`, or the first of `word`-2, `word`-3 .. that is not in `names`, and adds the result to `names`."""
     found = next(name for name in itertools.chain([word], (f"{word}-{number}" for number in itertools.count(2))) if name not in names)
     names.add(found)
     return found
@@ -37,12 +37,12 @@ class Script:
 
     @cached_property
     def lines(self) -> list[bytes]:
-        """The lines without the mark: the line `number` is `lines[number - 1]`."""
+        """Returns the lines without the mark: the line `number` is `lines[number - 1]`."""
         return self.text.split(b"\n")[self.is_marked:-1]
 
     @cached_property
     def words(self) -> set[str]:
-        """All words that could be names or ids, to which new ones may be added."""
+        """Returns all words that could be names or ids, to which new ones may be added."""
         return {word.decode() for word in WORD.findall(self.text)}
 
     def front(self, line: int) -> Script:
@@ -76,7 +76,7 @@ class Script:
 
 
 def front(text: bytes, line: Optional[int]) -> bytes:
-    """Returns a script up to and with a `line`, or any `text` as it is without one."""
+    """Returns a script up to and including a `line`, or all of a `text` without a line number."""
     return text if line is None else needed_script(text, "--asof").front(line).text
 
 

@@ -26,7 +26,7 @@ def value(half: Half, point: Point) -> int:
 
 
 def turned(half: Half) -> Half:
-    """The half-space on the other side."""
+    """Returns the half-space on the other side."""
     return tuple(-number for number in half)
 
 
@@ -35,7 +35,7 @@ def determinant(p: Point, q: Point, r: Point) -> int:
 
 
 def fan_volume(polygon: Ring) -> Fraction:
-    """The volume, with its sign, between the origin and a `polygon` of space."""
+    """Returns the volume, with its sign, between the origin and a `polygon` of space."""
     first = polygon[0]
     return Fraction(sum(ratio(determinant(first, q, r), first[3] * q[3] * r[3]) for q, r in zip(polygon[1:], polygon[2:]))) / 6
 
@@ -60,7 +60,7 @@ class Cell:
 
     @property
     def is_bounded(self) -> bool:
-        """Whether no face lies in the boundary of the domain."""
+        """Returns whether no face lies in the boundary of the domain."""
         return all(sum(map(bool, half[:3])) > 1 or abs(half[3]) != EDGE * max(abs(number) for number in half[:3]) for half in self.halves)
 
     @property
@@ -68,7 +68,7 @@ class Cell:
         return sum((fan_volume(polygon) for _, polygon in self.faces), Fraction(0))
 
     def cut(self, half: Half) -> Optional[Cell]:
-        """What the body has in a half-space, or None where that has no volume."""
+        """Returns what the body has in a half-space, or None if that has no volume."""
         values = {point: value(half, point) for point in self.points}
         if min(values.values()) >= 0:
             return self
@@ -90,7 +90,7 @@ class Cell:
         return Cell([*faces, (half, cap)])
 
     def minus(self, other: Cell) -> list[Cell]:
-        """What is left of the body outside another one: bodies that share no volume."""
+        """Returns the points of the body outside another body: bodies that share no volume."""
         left: list[Cell] = []
         inside: Optional[Cell] = self
         for half in other.halves:
@@ -104,8 +104,8 @@ class Cell:
 
 
 def sides_of(halves: Iterable[Half]) -> tuple[list[list[Half]], list[Half]]:
-    """The half-spaces that bound a part from below and from above on each axis, those of the domain where no other is narrower;
-    and the ones that are not upright or level."""
+    """Returns the half-spaces that bound a part from below and from above on each axis, those of the domain where no
+    other is narrower; and the ones that are not upright or level."""
     sides = [[tuple(sign * (at == axis) for at in range(3)) + (EDGE,) for sign in (1, -1)] for axis in range(3)]
     others = []
     for half in halves:
@@ -121,7 +121,7 @@ def sides_of(halves: Iterable[Half]) -> tuple[list[list[Half]], list[Half]]:
 
 
 def brick(sides: list[list[Half]]) -> Optional[Cell]:
-    """The box between two half-spaces on each axis, or None where it has no volume."""
+    """Returns the box between two half-spaces on each axis, or None if it has no volume."""
     if any(low[3] * -high[axis] + high[3] * low[axis] <= 0 for axis, (low, high) in enumerate(sides)):
         return None
     # Where each half-space ends on its axis, as a quotient.
@@ -140,7 +140,7 @@ def brick(sides: list[list[Half]]) -> Optional[Cell]:
 
 
 def cell(halves: Iterable[Half]) -> Optional[Cell]:
-    """The body of a part that has these half-spaces, or None where it has no volume."""
+    """Returns the body of a part that has these half-spaces, or None if it has no volume."""
     sides, others = sides_of(halves)
     body = brick(sides)
     for half in others:
@@ -149,7 +149,7 @@ def cell(halves: Iterable[Half]) -> Optional[Cell]:
 
 
 def apart(cells: Iterable[Cell]) -> list[Cell]:
-    """Bodies that share no volume and have together what `cells` have: parts of an `or` may overlap."""
+    """Returns bodies that share no volume and have together what `cells` have: parts of an `or` may overlap."""
     found: list[Cell] = []
     for each in cells:
         left = [each]
@@ -160,7 +160,7 @@ def apart(cells: Iterable[Cell]) -> list[Cell]:
 
 
 def volume(cells: Iterable[Cell]) -> Fraction:
-    """The volume of bodies that share none."""
+    """Returns the volume of bodies that share none."""
     return sum((each.volume for each in cells), Fraction(0))
 
 
@@ -177,12 +177,12 @@ class Flattened:
         self.axes = (one, two) if half[self.axis] * sign > 0 else (two, one)
 
     def there(self, ring: Ring) -> Ring:
-        """The `ring` of the plane in the plan."""
+        """Returns the `ring` of the plane in the plan."""
         one, two = self.axes
         return [lowest((point[one], point[two], point[3])) for point in ring]
 
     def back(self, ring: Ring) -> Ring:
-        """The `ring` of the plan in the plane."""
+        """Returns the `ring` of the plan in the plane."""
         return list(map(self.over, ring))
 
     def over(self, point: Point) -> Point:
@@ -208,8 +208,8 @@ class Facet(NamedTuple):
 
 
 def planes_of(cells: Iterable[Cell]) -> dict[Half, tuple[list[Ring], list[Ring]]]:
-    """The planes in which `cells` have faces. A plane is named by one of its two half-spaces, and has the polygons of the bodies
-    that lie in the other one, and of those that lie in it."""
+    """Returns the planes in which `cells` have faces. A plane is named by one of its two half-spaces, and has the
+    polygons of the bodies that lie in the other one, and of those that lie in it."""
     planes: defaultdict[Half, tuple[list[Ring], list[Ring]]] = defaultdict(lambda: ([], []))
     for each in cells:
         for half, polygon in each.faces:
@@ -220,8 +220,8 @@ def planes_of(cells: Iterable[Cell]) -> dict[Half, tuple[list[Ring], list[Ring]]
 
 
 def facets_of(half: Half, mine: list[Ring], others: list[Ring]) -> Iterator[Facet]:
-    """The boundary in the plane of a half-space: of bodies that lie in it, with the faces `mine`, what bodies on the other side,
-    with the faces `others`, do not touch."""
+    """Yields the boundary in the plane of a half-space: of bodies that lie in it, with the faces `mine`, what bodies on
+    the other side, with the faces `others`, do not touch."""
     if len(mine) == 1 and not others:
         yield Facet(half, mine, mine[0], [])
         return
@@ -234,7 +234,7 @@ def facets_of(half: Half, mine: list[Ring], others: list[Ring]) -> Iterator[Face
 
 
 def facets(cells: list[Cell]) -> list[Facet]:
-    """The boundary of bodies that share no volume, taken together: what two of them have in common is left out."""
+    """Returns the boundary of the union of bodies that share no volume: what two of the bodies have in common is omitted."""
     if len(cells) == 1:
         return [Facet(half, [polygon], polygon, []) for half, polygon in cells[0].faces]
     return [facet for half, (below, above) in planes_of(cells).items()
@@ -242,7 +242,7 @@ def facets(cells: list[Cell]) -> list[Facet]:
 
 
 def footprint(found: Iterable[Facet]) -> list[Ring]:
-    """What a body with the boundary `found` covers in plan, as convex polygons that share no area."""
+    """Returns what a body with the boundary `found` covers in plan, as convex polygons that share no area."""
     # Seen from below they go round counterclockwise, so from above they are turned.
     return outline.apart([lowest((x, y, w)) for x, y, _, w in piece[::-1]] for facet in found if facet.half[2] > 0 for piece in facet.pieces)
 
@@ -250,7 +250,7 @@ def footprint(found: Iterable[Facet]) -> list[Ring]:
 # ---- edges of boundaries
 
 def line_in_space(p: Point, q: Point) -> Line:
-    """The line through two points of space, the same for both ways along it: its direction, and its moment."""
+    """Returns the line through two points of space, the same for both ways along it: its direction, and its moment."""
     along = lowest([b * p[3] - a * q[3] for a, b in zip(p[:3], q[:3])])
     if next(number for number in along if number) < 0:
         along = turned(along)
@@ -259,13 +259,13 @@ def line_in_space(p: Point, q: Point) -> Line:
 
 
 def place_along(line: Line, point: Point) -> Number:
-    """Where a `point` of a `line` comes along it."""
+    """Returns where a `point` of a `line` comes along it."""
     return ratio(sum(a * b for a, b in zip(line[0], point)), point[3])
 
 
 def split_rings(found: list[Facet]) -> list[list[Ring]]:
-    """The rings of the facets `found`, each edge divided at the corners of others that lie on it: so each edge of a closed
-    boundary stands as often in one direction as in the other."""
+    """Returns the rings of the facets `found`, each edge divided at the corners of others that lie on it: so each edge
+    of a closed boundary stands as often in one direction as in the other."""
     on_line: defaultdict[Line, set[Point]] = defaultdict(set)
     for facet in found:
         for ring in facet.rings:

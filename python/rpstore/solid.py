@@ -48,7 +48,7 @@ def volume_of(faces: Iterable[list[Ring]]) -> Fraction:
 
 
 def see_closed(name: str, faces: Iterable[list[Ring]]) -> None:
-    """Sees that a surface is closed: each edge has as many faces in one direction as in the other.
+    """Checks that a surface is closed: each edge has as many faces in one direction as in the other.
 
     # Errors
     `Unfit` if an edge has not.
@@ -106,7 +106,7 @@ def quadrangle(low: tuple[Point, Point], high: tuple[Point, Point], west: Fracti
 
 
 def homogeneous(point: Iterable[Fraction]) -> Point:
-    """Returns the whole numbers of a point, in lowest terms."""
+    """Returns the integers of a point, in lowest terms."""
     return plane.whole([*point, 1])
 
 
@@ -222,8 +222,8 @@ def frame(points: list[Point]) -> Cell:
 
 
 def halved(cell: Cell) -> Iterator[list[Cell]]:
-    """Yields what a part has on both sides of whole levels on each axis: through its middle, and through the corner with the most
-    faces, as the top of a cone."""
+    """Yields the points of a part on both sides of integer levels on each axis: through its middle, and through the
+    corner with the most faces, for example the top of a cone."""
     top = plane.numbers(Counter(point for _, polygon in cell.faces for point in polygon).most_common(1)[0][0])
     for axis, (low, high) in enumerate(zip(*cell.box)):
         for at in (Fraction(low + high) / 2, Fraction(top[axis])):

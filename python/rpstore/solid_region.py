@@ -20,13 +20,13 @@ MOST_PARTS = 1024
 
 
 def whole_box(cell: Cell) -> Box:
-    """Returns the least box with whole sides that holds a part."""
+    """Returns the least box with integer corner coordinates that contains a part."""
     low, high = cell.box
     return [int(each // 1) for each in low], [int(-(-each // 1)) for each in high]
 
 
 def is_side(half: Half) -> bool:
-    """Returns whether the plane of a face of a part has a side of the least box with whole sides round it."""
+    """Returns whether the plane of a face of the part contains a side of the part's least box with integer corner coordinates."""
     found = lowest(half)
     return sorted(abs(number) for number in found[:3]) == [0, 0, 1]
 
@@ -46,8 +46,8 @@ def is_level(half: Half) -> bool:
 
 
 def levels(pieces: Sequence[Piece]) -> Optional[list[int]]:
-    """Returns the heights of the level faces of a solid from above, or None if a face is neither upright nor level or a height is
-    not whole."""
+    """Returns the heights of the level faces of a solid from above, or None if a face is neither upright nor level or
+    a height is not an integer."""
     found = set()
     for half, _ in pieces:
         if half[2] and not is_level(half) or is_level(half) and half[3] % half[2]:
@@ -94,8 +94,8 @@ def slabs(pieces: Sequence[Piece], heights: list[int]) -> Iterator[tuple[int, in
 
 
 def prisms(pieces: Sequence[Piece]) -> Optional[list[str]]:
-    """Returns a solid of upright and level faces with whole corners as prisms, one for each outline between two heights; or None if
-    it is none."""
+    """Returns a solid of upright and level faces with integer corners as prisms, one for each outline between two
+    heights; None if the solid is of another kind."""
     heights, found = levels(pieces), []
     if heights is None:
         return None

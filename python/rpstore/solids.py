@@ -62,7 +62,7 @@ def horizontal(named: str) -> grid.Grid:
 
 
 def see_metres(model: Model) -> None:
-    """Sees that the numbers of a model that names no grid can be metres, by the rule for plans.
+    """Checks that the numbers of a model that names no grid can be metres, by the rule for plans.
 
     # Errors
     `Fault` if they may be degrees.

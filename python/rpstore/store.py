@@ -16,7 +16,7 @@ UNCHECKED = "too long to be checked"
 
 
 def program(given: Optional[str] = None) -> str:
-    """Returns the command of the store: as `given`, or by RPSTORE, or that of the repository in which this file is."""
+    """Returns the command of the store: as `given`, or named by RPSTORE, or the one of the repository that has this file."""
     return given or os.environ.get("RPSTORE") or str(Path(__file__).resolve().parents[2] / "rpstore")
 
 
@@ -36,7 +36,7 @@ def not_run(command: str, error: OSError) -> Fault:
 
 
 def see_status(status: int) -> None:
-    """Sees that the store ended well.
+    """Checks that the store ended well.
 
     # Errors
     `Fault` if its `status` is above 1, or a signal ended it.
@@ -122,7 +122,7 @@ def is_brief(text: bytes) -> bool:
 
 
 def judged(text: bytes, command: str) -> str:
-    """Returns what is said of a report before anything is drawn of it: `check` accepted it, or cannot judge it."""
+    """Returns the text about a report that comes before any picture of it: `check` accepted it, or cannot judge it."""
     said = checked(text, command)
     if said.startswith("wrong"):
         for _ in report.read(io.BytesIO(text)):

@@ -47,7 +47,7 @@ def is_flat(facet: shape.Facet, rings: list[Ring], written: Written) -> bool:
 
 
 def much_joined(faces: list[list[Ring]]) -> Iterator[int]:
-    """Yields the places of faces that have more than two corners in common with a face before them."""
+    """Yields the places of faces that have more than two corners in common with an earlier face."""
     at_corner = defaultdict(set)
     for number, rings in enumerate(faces):
         for ring in rings:

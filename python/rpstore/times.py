@@ -20,8 +20,8 @@ DAY = re.compile(notes.DAY + rb"([0-9]{4}-[0-9]{2}-[0-9]{2})\b")
 
 @dataclass(frozen=True)
 class Times:
-    """The lots that ever were, those that ended first, in the order in which they ended; the days, each with the number of the line after
-    which it begins; and the number of the last line."""
+    """The lots that ever existed: ended lots first, in the order in which they ended; the days, each with the number
+    of the line after which it begins; and the number of the last line."""
 
     seen: Seen
     days: list[tuple[int, str]]
@@ -34,7 +34,7 @@ class Times:
 
     @property
     def moments(self) -> list[tuple[int, str]]:
-        """Returns the lines at which lots came or ended, and the last line, each with its day, or ""."""
+        """Returns the lines at which lots was born or ended, and the last line, each with its day, or ""."""
         lines = {line for body in self.seen.bodies for line in (body.born, body.ended) if line is not None} | {self.last}
         return [(line, self.day_of(line)) for line in sorted(lines)]
 
@@ -51,15 +51,15 @@ def changes(book: extract.Book) -> bytes:
 
 
 def body_of(answer: report.Answer, book: extract.Book) -> Optional[Body]:
-    """Returns the lot that a line `show lot X` shows, with the lines of the book at which it came and ended; None if it is refused."""
+    """Returns the lot that a line `show lot X` shows, with the lines of the book at which it was born and ended; None if it is refused."""
     label = lots.lot_of(answer.parsed) or ""
     known = book.register.lots[label]
     return lots.lot_body(report.Lot(label, known.born, known.ended, known.layer, known.origins), lots.cells_of(answer))
 
 
 def times(script: Script, place: Place, program: str, added: Sequence[tuple[int, str]] = ()) -> Times:
-    """Asks the store `program` for all lots that ever were in a `script`. Its days are those of its notes; if no note has a day, those on
-    which the lines were `added` to a book."""
+    """Asks the store `program` for all lots that ever existed in a `script`. Its days are those of its notes; if no
+    note has a day, those on which the lines were `added` to a book."""
     book = extract.asked(extract.lines_of(script.text), [], program)
     run = store.run_and_check(changes(book), program)
     shown = [body_of(answer, book) for answer in report.read(io.BytesIO(run.text)) if answer.command and answer.command.word == "show"]

@@ -8,19 +8,19 @@ Number = Union[int, Fraction]
 
 
 def nearest(number: Number) -> int:
-    """The nearest whole number, a half upwards."""
+    """Returns the nearest integer, a half upwards."""
     return (2 * number.numerator + number.denominator) // (2 * number.denominator)
 
 
 def decimal(number: Number, digits: int) -> str:
-    """The nearest decimal with so many `digits` behind the point, a half away from zero."""
+    """Returns the nearest decimal with so many `digits` after the point, a half away from zero."""
     text = str(nearest(abs(Fraction(number)) * 10**digits)).rjust(digits + 1, "0")
     sign = "-" if number < 0 and text.strip("0") else ""
     return sign + (f"{text[:-digits]}.{text[-digits:]}" if digits else text)
 
 
 def exact(number: Number, digits: int = 3) -> str:
-    """The number as a decimal, which has at least so many `digits` and is followed by .. where it goes on."""
+    """Returns the number as a decimal with at least so many `digits`, followed by .. if the decimal does not end."""
     for more in range(digits, digits + 7):
         if Fraction(number) * 10**more % 1 == 0:
             return decimal(number, more)
@@ -32,7 +32,7 @@ def metres(units: Number) -> str:
 
 
 def length(units: int, version: int) -> str:
-    """A length or a height: the number of units in a script of version 1, and metres in one of version 2."""
+    """Returns a length or a height: the number of units in a script of version 1, and metres in one of version 2."""
     return str(units) if version == 1 else f"{decimal(Fraction(units, 1000), 3)} m"
 
 

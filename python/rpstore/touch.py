@@ -44,7 +44,7 @@ class Contact:
 
     @property
     def kind(self) -> str:
-        """Returns the most that there is."""
+        """Returns the greatest kind of contact: "wall", else "edge", else "corner", else "nothing"."""
         return "wall" if self.walls else "edge" if self.edges else "corner" if self.corners else "nothing"
 
     @property

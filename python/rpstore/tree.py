@@ -59,7 +59,7 @@ def leaves(words: Sequence[str]) -> Iterator[tuple[int, int]]:
 
 
 def tree(expression: str) -> Node:
-    """Returns the tree of an `expression`, which reads as one."""
+    """Returns the tree of an `expression` without faults."""
     words = expression.split(" ")
     made: list[Node] = []
     for begin, end in reversed(list(leaves(words))):

@@ -69,7 +69,7 @@ def said(lines: Sequence[str], found: Forms, size: int) -> str:
 
 
 def see_room(lines: Sequence[str], found: Forms) -> None:
-    """Sees that a register has room for the lots that `lines` register.
+    """Checks that a register has room for the lots that `lines` register.
 
     # Errors
     `Fault` if they have too many parts. A lot has one at least.

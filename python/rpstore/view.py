@@ -20,13 +20,13 @@ SCRIPTS = ("scene.js", "eye.js", "paint.js", "names.js", "panel.js", "hand.js")
 
 
 def short(units: Number) -> str:
-    """Metres to the millimetre, without a zero at the end, but for two digits."""
+    """Returns metres to the millimetre, with two decimals if the third is 0."""
     text = told.metres(told.nearest(units))
     return text[:-1] if text.endswith("0") and len(text.split(".")[1]) == 3 else text
 
 
 def storeys_of(lows: list[Number], step: int) -> tuple[list[int], list[str]]:
-    """The storey of each lowest height, from 0, and how each storey is called. One goes up to less than `step` above its lowest."""
+    """Returns the storey of each lowest height, from 0, and how each storey is called. One goes up to less than `step` above its lowest."""
     place: dict[Number, int] = {}
     ends: list[list[Number]] = []
     for low in sorted(set(lows)):
@@ -38,7 +38,7 @@ def storeys_of(lows: list[Number], step: int) -> tuple[list[int], list[str]]:
 
 
 def colours_of(bodies: list[Body]) -> list[int]:
-    """A colour for each body, so that those that stand side by side have different ones, and then those over each other."""
+    """Returns a colour for each body: bodies next to each other have different colours, and then bodies above each other."""
     boxes = [body.box for body in bodies]
 
     def weight(one: int, other: int) -> int:
@@ -48,7 +48,7 @@ def colours_of(bodies: list[Body]) -> list[int]:
 
 
 def coordinate(value: Number) -> Union[int, float]:
-    """A coordinate of the page, in units: whole where it is whole, else to the thousandth."""
+    """Returns a coordinate of the page, in units: an integer if it is one, otherwise rounded to the thousandth."""
     return value if isinstance(value, int) else round(float(value), 3)
 
 
@@ -72,7 +72,7 @@ class Mesh:
         self.edges = [end for edge in sorted(edges) for end in edge]
 
     def place(self, point: Point) -> int:
-        """The number of a corner."""
+        """Returns the number of a corner."""
         if point not in self.places:
             self.places[point] = len(self.places)
             self.points += (coordinate(ratio(point[axis], point[3]) - self.centre[axis]) for axis in range(3))
@@ -80,7 +80,7 @@ class Mesh:
 
 
 def middle_of(body: Body, centre: list[int]) -> list[int]:
-    """Where a body is named: the middle of its largest piece that is seen from above."""
+    """Returns where to write the name of a body: the middle of its largest piece that is seen from above."""
     def size(piece: Ring) -> Number:
         return outline.area([(x, y, w) for x, y, _, w in piece])
 
@@ -89,7 +89,7 @@ def middle_of(body: Body, centre: list[int]) -> list[int]:
 
 
 def entry(body: Body, layer: int, storey: int, colour: int, place: Place, centre: list[int]) -> dict[str, Any]:
-    """What the page knows of a body. Numbers that it shows are texts, so that no browser rounds them."""
+    """Returns what the page knows of a body. Numbers that it shows are texts, so that no browser rounds them."""
     mesh, (low, high) = Mesh(body, centre), body.box
     found = {
         "name": body.label, "layer": layer, "storey": storey, "colour": colour, "line": body.born, "origins": body.origins,
@@ -110,7 +110,7 @@ def several(count: int, what: str) -> str:
 
 
 def about(seen: Seen, bodies: list[Body]) -> str:
-    """One line on what the page shows, and what not."""
+    """Returns one line on what the page shows, and what it omits."""
     lots, far = sum(body.is_lot for body in bodies), len(seen.bodies) - len(bodies)
     ended = sum(body.ended is not None for body in bodies)
     told_ = [several(lots, "lot") + (f", {ended:,} of which ended" if ended else "")] if lots else []
@@ -122,12 +122,12 @@ def about(seen: Seen, bodies: list[Body]) -> str:
 
 
 def layers_of(bodies: Iterable[Body]) -> list[str]:
-    """The layers in the order of their lots, and then those of regions that are no lots, those without a name last."""
+    """Returns the layers in the order of their lots, and then those of regions that are no lots, those without a name last."""
     return list(dict.fromkeys(body.layer for body in sorted(bodies, key=lambda body: (not body.is_lot, body.layer == "other regions"))))
 
 
 def assembled(title: str, data: dict[str, Any]) -> str:
-    """The page with its styles, scripts and data."""
+    """Returns the page with its styles, scripts and data."""
     packed = base64.b64encode(gzip.compress(json.dumps(data, separators=(",", ":")).encode(), 9, mtime=0)).decode()
     style, *scripts = ((PAGE / name).read_text(encoding="utf-8") for name in ("page.css", *SCRIPTS))
     page = (PAGE / "page.html").read_text(encoding="utf-8")
@@ -137,8 +137,9 @@ def assembled(title: str, data: dict[str, Any]) -> str:
 
 
 def page(seen: Seen, title: str, step: int = STOREY, moments: Sequence[tuple[int, str]] = ()) -> str:
-    """The page of what was read, under a `title`; lots whose lowest heights are less than `step` apart are of one storey. With
-    `moments`, lines each with a day or "", it has a slider, and shows the lots that were live after a line."""
+    """Returns the page of what was read, under a `title`; lots whose lowest heights are less than `step` apart are of
+    one storey. With `moments`, lines each with a day or "", it has a slider, and shows the lots that were live after
+    a line."""
     bodies = [body for body in seen.bodies if body.is_bounded]
     if not bodies:
         raise seen.without("no lot and no region with an end")

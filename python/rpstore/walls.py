@@ -31,7 +31,7 @@ class Result:
 
 
 def lots_asked(live: Sequence[report.Lot], ids: Sequence[str]) -> list[str]:
-    """Returns the `ids`, or those of all live lots if there are none.
+    """Returns the `ids`, or the ids of all live lots if there are none.
 
     # Errors
     `Fault` if one of the ids is that of no live lot.
@@ -67,8 +67,8 @@ def answered(script: Script, lines: Sequence[str], ids: Collection[str], program
 
 
 def walls(script: Script, ids: Sequence[str], program: str) -> Result:
-    """Asks the store `program` which lots of a `script` touch those with the `ids`, or which touch each other without ids, and
-    computes what each two have in common."""
+    """Asks the store `program` which lots of a `script` touch the lots `ids`, or, without ids, which lots touch each
+    other; computes what each two have in common."""
     live = script.live(program)
     asked = lots_asked(live, ids)
     near = with_neighbours(script, asked, program) if ids else set(asked)

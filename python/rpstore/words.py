@@ -69,7 +69,7 @@ class Parser(argparse.ArgumentParser):
         self.exit(2, f"rpstore-gis: {said} Nothing was read or written.\n")
 
     def refuse_word(self, word: str, known: Iterable[str]) -> NoReturn:
-        """Ends with 2, and names the word that is the nearest of the `known` ones, if one is near."""
+        """Ends with 2, and names the nearest of the `known` words, if one is near."""
         self.refuse(f"unknown word {word!a}{hints.meant(word, known) or f'; {self.prog} --help lists the words.'}")
 
     def error(self, message: str) -> NoReturn:
