@@ -51,10 +51,14 @@ fn a_box_has_its_eight_corners(rt: HostRuntime) {
     assert_eq!(rt; clip.corners().len(), 8);
     let weak = clip.first_weak().expect(&rt, "no weak point");
     assert_eq!(rt; weak.numbers(), (1, 2, 3, 1));
-    // The plane of a side once more, from either half-space, and one that is outside.
-    add_all(&rt, &mut clip, &[sides[0], half(&rt, (0, 0, 1, 9))]);
+    // The plane of a side once more, one that is outside, and the plane of a side from its other half-space.
+    add_all(
+        &rt,
+        &mut clip,
+        &[half(&rt, (1, 0, 0, -1)), half(&rt, (0, 0, 1, 9))],
+    );
     assert_eq!(rt; clip.corners().len(), 8);
-    add_all(&rt, &mut clip, &[sides[5].not()]);
+    add_all(&rt, &mut clip, &[half(&rt, (0, 0, 1, -6))]);
     assert_eq!(rt; clip.corners().len(), 4);
     // One that cuts off all that is left.
     add_all(&rt, &mut clip, &[half(&rt, (1, 0, 0, -9))]);
@@ -79,6 +83,7 @@ fn an_upright_body_is_cut_between_two_heights(rt: HostRuntime) {
     assert_eq!(rt; clip.corners().len(), 6);
     let inside = clip.first_inside().expect(&rt, "no certificate");
     let points = inside.items();
+    assert_eq!(rt; points.len(), 2);
     assert_eq!(rt; points[0].numbers(), (0, 0, 3, 2));
     assert_eq!(rt; points[1].numbers(), (0, 0, 2, 1));
 }
